@@ -8,7 +8,7 @@ use Rattle.cd_syntax.specs.declared.tokens.TokenKind.TheVariants as token
 use Rattle.cd_syntax.specs.Tokens.{at}
 use Rattle.cd_model.specs.Thing.{Thing, Integer, Atom, Xml, Record, NoField}
 use Rattle.cd_documents.specs.Document.{the_nil}
-use Rattle.cd_documents.specs.Machine.{Place, AtValue, AtItem, AfterPart, AtField, AfterField, AtTag, AtAttribute, AfterAttribute, AtEqual, Done, Frame, InTuple, InSequence, InRecord, InTag, InContent, state, pairs, with_fields, put, Fits, Ends}
+use Rattle.cd_documents.specs.Machine.{Expecting, AtValue, AtItem, AfterPart, AtField, AfterField, AtTag, AtAttribute, AfterAttribute, AtEqual, Done, OpenTree, InTuple, InSequence, InRecord, InTag, InContent, state, pairs, with_fields, put, Fits, Ends}
 
 abbrev anywhere : TokenKind → Token
 anywhere kind = at kind (record { from = 0; to = 0 })
@@ -34,37 +34,37 @@ close_tag = anywhere (token.Sign sign.Greater)
 abbrev equal : Token
 equal = anywhere (token.Sign sign.Equal)
 
-after : (most : ℕ) (value : Thing) (frames : List Frame) → Ends most (put value frames)
+after : (most : ℕ) (value : Thing) (trees : List OpenTree) → Ends most (put value trees)
 after most value [] = ([], value, refl)
-after most value (InTuple before ∷ frames) = let rest = after most (pairs before value) frames in (close_tuple ∷ rest.0, rest.1, rest.2)
-after most value (InSequence before ∷ frames) = let rest = after most (pairs (value ∷ before) the_nil) frames in (close_sequence ∷ rest.0, rest.1, rest.2)
-after most value (InRecord labels values ∷ frames) =
-    let rest = after most (Record (with_fields labels (value ∷ values) NoField)) frames in (close_record ∷ rest.0, rest.1, rest.2)
-after most value (InTag tag labels values ∷ frames) =
-    let rest = after most (Xml (Atom tag) (Record (with_fields labels (value ∷ values) NoField)) one) frames in (close_tag ∷ one_token ∷ rest.0, rest.1, rest.2)
-after most value (InContent tag attributes ∷ frames) = after most (Xml (Atom tag) (Record attributes) value) frames
+after most value (InTuple before ∷ trees) = let rest = after most (pairs before value) trees in (close_tuple ∷ rest.0, rest.1, rest.2)
+after most value (InSequence before ∷ trees) = let rest = after most (pairs (value ∷ before) the_nil) trees in (close_sequence ∷ rest.0, rest.1, rest.2)
+after most value (InRecord labels values ∷ trees) =
+    let rest = after most (Record (with_fields labels (value ∷ values) NoField)) trees in (close_record ∷ rest.0, rest.1, rest.2)
+after most value (InTag tag labels values ∷ trees) =
+    let rest = after most (Xml (Atom tag) (Record (with_fields labels (value ∷ values) NoField)) one) trees in (close_tag ∷ one_token ∷ rest.0, rest.1, rest.2)
+after most value (InContent tag attributes ∷ trees) = after most (Xml (Atom tag) (Record attributes) value) trees
 
-pub each_ends : (most : ℕ) (place : Place) (frames : List Frame) → Fits place frames → Ends most (state place frames)
-each_ends most AtValue frames fits = let rest = after most one frames in (one_token ∷ rest.0, rest.1, rest.2)
-each_ends most AtItem (InSequence before ∷ frames) fits = let rest = after most (pairs before the_nil) frames in (close_sequence ∷ rest.0, rest.1, rest.2)
-each_ends most AfterPart (InTuple (last ∷ before) ∷ frames) fits = let rest = after most (pairs before last) frames in (close_tuple ∷ rest.0, rest.1, rest.2)
-each_ends most AtField (InRecord labels values ∷ frames) fits =
-    let rest = after most (Record (with_fields labels values NoField)) frames in (close_record ∷ rest.0, rest.1, rest.2)
-each_ends most AfterField (InRecord labels values ∷ frames) fits =
-    let rest = after most (Record (with_fields labels values NoField)) frames in (close_record ∷ rest.0, rest.1, rest.2)
-each_ends most AtTag (InTag tag labels values ∷ frames) fits =
-    let rest = after most (Xml (Atom (codes "a")) (Record (with_fields labels values NoField)) one) frames in
+pub each_ends : (most : ℕ) (expecting : Expecting) (trees : List OpenTree) → Fits expecting trees → Ends most (state expecting trees)
+each_ends most AtValue trees fits = let rest = after most one trees in (one_token ∷ rest.0, rest.1, rest.2)
+each_ends most AtItem (InSequence before ∷ trees) fits = let rest = after most (pairs before the_nil) trees in (close_sequence ∷ rest.0, rest.1, rest.2)
+each_ends most AfterPart (InTuple (last ∷ before) ∷ trees) fits = let rest = after most (pairs before last) trees in (close_tuple ∷ rest.0, rest.1, rest.2)
+each_ends most AtField (InRecord labels values ∷ trees) fits =
+    let rest = after most (Record (with_fields labels values NoField)) trees in (close_record ∷ rest.0, rest.1, rest.2)
+each_ends most AfterField (InRecord labels values ∷ trees) fits =
+    let rest = after most (Record (with_fields labels values NoField)) trees in (close_record ∷ rest.0, rest.1, rest.2)
+each_ends most AtTag (InTag tag labels values ∷ trees) fits =
+    let rest = after most (Xml (Atom (codes "a")) (Record (with_fields labels values NoField)) one) trees in
     (anywhere (token.Word (codes "a")) ∷ close_tag ∷ one_token ∷ rest.0, rest.1, rest.2)
-each_ends most AtAttribute (InTag tag labels values ∷ frames) fits =
-    let rest = after most (Xml (Atom tag) (Record (with_fields labels values NoField)) one) frames in (close_tag ∷ one_token ∷ rest.0, rest.1, rest.2)
-each_ends most AfterAttribute (InTag tag labels values ∷ frames) fits =
-    let rest = after most (Xml (Atom tag) (Record (with_fields labels values NoField)) one) frames in (close_tag ∷ one_token ∷ rest.0, rest.1, rest.2)
-each_ends most AtEqual (InTag tag labels values ∷ frames) fits =
-    let rest = after most (Xml (Atom tag) (Record (with_fields labels (one ∷ values) NoField)) one) frames in
+each_ends most AtAttribute (InTag tag labels values ∷ trees) fits =
+    let rest = after most (Xml (Atom tag) (Record (with_fields labels values NoField)) one) trees in (close_tag ∷ one_token ∷ rest.0, rest.1, rest.2)
+each_ends most AfterAttribute (InTag tag labels values ∷ trees) fits =
+    let rest = after most (Xml (Atom tag) (Record (with_fields labels values NoField)) one) trees in (close_tag ∷ one_token ∷ rest.0, rest.1, rest.2)
+each_ends most AtEqual (InTag tag labels values ∷ trees) fits =
+    let rest = after most (Xml (Atom tag) (Record (with_fields labels (one ∷ values) NoField)) one) trees in
     (equal ∷ one_token ∷ close_tag ∷ one_token ∷ rest.0, rest.1, rest.2)
-each_ends most AtEqual (InRecord labels values ∷ frames) fits =
-    let rest = after most (Record (with_fields labels (one ∷ values) NoField)) frames in
+each_ends most AtEqual (InRecord labels values ∷ trees) fits =
+    let rest = after most (Record (with_fields labels (one ∷ values) NoField)) trees in
     (equal ∷ one_token ∷ close_record ∷ rest.0, rest.1, rest.2)
 each_ends most (Done value) [] fits = ([], value, refl)
 each_ends most AtItem [] fits = absurd fits
-each_ends most place frames fits = absurd fits
+each_ends most expecting trees fits = absurd fits

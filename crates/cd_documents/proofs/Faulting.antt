@@ -7,7 +7,7 @@ use Rattle.cd_syntax.specs.SyntaxFaults.{BeginSome, place_of, IsSyntaxFault, at_
 use Rattle.cd_model.specs.Thing.{Thing}
 use Rattle.cd_documents.specs.Document.{IsDocument}
 use Rattle.cd_documents.specs.Terminal.{terminal, opens, Bracket, open_from, open_after, opens_at}
-use Rattle.cd_documents.specs.Machine.{Frame, State, start, Fault, Syntax, TooDeep, after_terminal, or_wrong, step, and_then, reach, ended, value_at, run, Fits}
+use Rattle.cd_documents.specs.Machine.{OpenTree, State, start, Fault, Syntax, TooDeep, after_terminal, or_wrong, step, and_then, reach, ended, value_at, run, Fits}
 use Rattle.cd_documents.specs.DocumentFaults.{ADocument, IsTooDeepDocument, at_bracket}
 use Rattle.cd_documents.proofs.Completing.{going, comes}
 use Rattle.cd_documents.proofs.Sounding.{derived}
@@ -16,12 +16,12 @@ use Rattle.cd_documents.proofs.StepsKept.{brackets, step_kept, IsShallow, shallo
 
 -- a state as it has to be after tokens, from another one
 abbrev IsGood : ℕ → List Bracket → List Token → State → Type 0
-IsGood most before tokens last = Fits last.place last.frames × (length last.frames ≤ most) × (brackets last.frames ≡ open_from before tokens)
+IsGood most before tokens last = Fits last.expecting last.trees × (length last.trees ≤ most) × (brackets last.trees ≡ open_from before tokens)
 
 -- where a run stops: the tokens before, the token, those after it, and the state
 abbrev Stop : ℕ → State → List Token → Fault → Type 0
 Stop most now tokens fault = (before : List Token) × (one : Token) × (rest : List Token) × (last : State) × (tokens ≡ before ++ one ∷ rest)
-    × (reach most now before ≡ Ok last) × (step most last one ≡ Err fault) × IsGood most (brackets now.frames) before last
+    × (reach most now before ≡ Ok last) × (step most last one ≡ Err fault) × IsGood most (brackets now.trees) before last
 
 abbrev refused : Fault → Result (Option Thing) Fault
 refused fault = Err fault
@@ -31,9 +31,9 @@ same_fault one other h = cc h
 
 module _ (most : ℕ) where
   abbrev StopsOn : List Token → Type 0
-  StopsOn tokens = (now : State) (fault : Fault) → Fits now.place now.frames → length now.frames ≤ most → run most now tokens ≡ Err fault → Stop most now tokens fault
+  StopsOn tokens = (now : State) (fault : Fault) → Fits now.expecting now.trees → length now.trees ≤ most → run most now tokens ≡ Err fault → Stop most now tokens fault
 
-  stops_by : (made : Result State Fault) (one : Token) (tokens : List Token) → StopsOn tokens → (now : State) (fault : Fault) → Fits now.place now.frames → length now.frames ≤ most
+  stops_by : (made : Result State Fault) (one : Token) (tokens : List Token) → StopsOn tokens → (now : State) (fault : Fault) → Fits now.expecting now.trees → length now.trees ≤ most
       → step most now one ≡ made → going most tokens made ≡ Err fault → Stop most now (one ∷ tokens) fault
   stops_by (Ok next) one tokens on now fault fits le is h =
       let keeps = step_kept most now one next fits le is in
@@ -55,11 +55,11 @@ module _ (most : ℕ) where
   stops (one ∷ tokens) now fault fits le h = stops_by (step most now one) one tokens (stops tokens) now fault fits le refl h
 
   abbrev ReachesOn : List Token → Type 0
-  ReachesOn tokens = (now last : State) → Fits now.place now.frames → length now.frames ≤ most → reach most now tokens ≡ Ok last
-      → IsGood most (brackets now.frames) tokens last
+  ReachesOn tokens = (now last : State) → Fits now.expecting now.trees → length now.trees ≤ most → reach most now tokens ≡ Ok last
+      → IsGood most (brackets now.trees) tokens last
 
-  reaches_by : (made : Result State Fault) (one : Token) (tokens : List Token) → ReachesOn tokens → (now last : State) → Fits now.place now.frames → length now.frames ≤ most
-      → step most now one ≡ made → and_then made (λ next. reach most next tokens) ≡ Ok last → IsGood most (brackets now.frames) (one ∷ tokens) last
+  reaches_by : (made : Result State Fault) (one : Token) (tokens : List Token) → ReachesOn tokens → (now last : State) → Fits now.expecting now.trees → length now.trees ≤ most
+      → step most now one ≡ made → and_then made (λ next. reach most next tokens) ≡ Ok last → IsGood most (brackets now.trees) (one ∷ tokens) last
   reaches_by (Ok next) one tokens on now last fits le is h =
       let keeps = step_kept most now one next fits le is in
       let found = on next last keeps.0 keeps.2 h in
@@ -73,7 +73,7 @@ module _ (most : ℕ) where
   same_state one other h = cc h
 
   pub reaches : (tokens : List Token) → ReachesOn tokens
-  reaches [] now last fits le h = subst (IsGood most (brackets now.frames) []) (same_state now last h) (fits, le, refl)
+  reaches [] now last fits le h = subst (IsGood most (brackets now.trees) []) (same_state now last h) (fits, le, refl)
   reaches (one ∷ tokens) now last fits le h = reaches_by (step most now one) one tokens (reaches tokens) now last fits le refl h
 
 -- a run goes on from where tokens lead
@@ -105,9 +105,9 @@ module _ (most greater : ℕ) (le : most ≤ greater) where
   step_deeper : (now : State) (one : Token) (made : Result State Fault) → IsShallow made → step most now one ≡ made → step greater now one ≡ made
   step_deeper now one made is h =
       let from = one.span.from in
-      let other = or_wrong from (after_terminal now.place now.frames (terminal one.kind)) in
-      let found = shallow (opens (terminal one.kind) && not (nat_lt (length now.frames) most)) from other made is h in
-      ap (λ (b : Bool). if b then Err (TooDeep from) else other) (still (opens (terminal one.kind)) (length now.frames) found.0) ∙ found.1
+      let other = or_wrong from (after_terminal now.expecting now.trees (terminal one.kind)) in
+      let found = shallow (opens (terminal one.kind) && not (nat_lt (length now.trees) most)) from other made is h in
+      ap (λ (b : Bool). if b then Err (TooDeep from) else other) (still (opens (terminal one.kind)) (length now.trees) found.0) ∙ found.1
 
   deeper_by : (made : Result State Fault) (one : Token) (tokens : List Token) → ((now last : State) → reach most now tokens ≡ Ok last → reach greater now tokens ≡ Ok last)
       → (now last : State) → step most now one ≡ made → and_then made (λ next. reach most next tokens) ≡ Ok last → reach greater now (one ∷ tokens) ≡ Ok last
@@ -140,9 +140,9 @@ opens_there : (before : List Token) (one : Token) (rest : List Token) → opens_
 opens_there [] one rest = refl
 opens_there (first ∷ before) one rest = opens_there before one rest
 
-pub begun : (most : ℕ) (before : List Token) (last : State) → reach most start before ≡ Ok last → Fits last.place last.frames → BeginSome ADocument most before
+pub begun : (most : ℕ) (before : List Token) (last : State) → reach most start before ≡ Ok last → Fits last.expecting last.trees → BeginSome ADocument most before
 begun most before last is fits =
-    let rest = each_ends most last.place last.frames fits in
+    let rest = each_ends most last.expecting last.trees fits in
     (rest.0, (rest.1, derived most (before ++ rest.0) rest.1 (goes_on most rest.0 before start last is ∙ rest.2)))
 
 read_deeper : (depth most : ℕ) (tokens : List Token) (value : Thing) → IsDocument depth tokens value → run (depth + most) start tokens ≡ Ok (Some value)
@@ -167,12 +167,12 @@ syntax_place from other None h = cc h
 
 pub wrong_place : (most : ℕ) (last : State) (one : Token) (from : ℕ) → step most last one ≡ Err (Syntax from) → one.span.from ≡ from
 wrong_place most last one from h =
-    let made = after_terminal last.place last.frames (terminal one.kind) in
-    let found = shallow (opens (terminal one.kind) && not (nat_lt (length last.frames) most)) one.span.from (or_wrong one.span.from made) (Err (Syntax from)) tt h in
+    let made = after_terminal last.expecting last.trees (terminal one.kind) in
+    let found = shallow (opens (terminal one.kind) && not (nat_lt (length last.trees) most)) one.span.from (or_wrong one.span.from made) (Err (Syntax from)) tt h in
     syntax_place one.span.from from made found.1
 
 wrong_at : (most : ℕ) (before : List Token) (one : Token) (rest : List Token) (end : ℕ) (last : State) (from : ℕ) → reach most start before ≡ Ok last
-    → step most last one ≡ Err (Syntax from) → Fits last.place last.frames → IsSyntaxFault ADocument most (before ++ one ∷ rest) end from
+    → step most last one ≡ Err (Syntax from) → Fits last.expecting last.trees → IsSyntaxFault ADocument most (before ++ one ∷ rest) end from
 wrong_at most before one rest end last from is wrong fits =
     subst (IsSyntaxFault ADocument most (before ++ one ∷ rest) end) (place_there before one rest end ∙ wrong_place most last one from wrong)
     (at_token (length before) (record {
@@ -188,7 +188,7 @@ wrong_token most tokens end from h =
     subst (λ all. IsSyntaxFault ADocument most all end from) (sym found.4)
     (wrong_at most found.0 found.1 found.2 end found.3 from found.5 found.6 found.7.0)
 
-not_ended : (most : ℕ) (tokens : List Token) (end : ℕ) (last : State) → reach most start tokens ≡ Ok last → value_at last.place ≡ None → IsSyntaxFault ADocument most tokens end end
+not_ended : (most : ℕ) (tokens : List Token) (end : ℕ) (last : State) → reach most start tokens ≡ Ok last → value_at last.expecting ≡ None → IsSyntaxFault ADocument most tokens end end
 not_ended most tokens end last is none =
     let good = reaches most tokens start last tt (omega arith) is in
     at_end (record {
@@ -201,7 +201,7 @@ not_ended most tokens end last is none =
           cc (sym reads ∙ stops);
     })
 
-no_value : (made : Result State Fault) → ended made ≡ Ok None → (last : State) × (made ≡ Ok last) × (value_at last.place ≡ None)
+no_value : (made : Result State Fault) → ended made ≡ Ok None → (last : State) × (made ≡ Ok last) × (value_at last.expecting ≡ None)
 no_value (Ok last) h = (last, refl, cc h)
 no_value (Err fault) h = absurd (cc h)
 
@@ -216,20 +216,20 @@ full_by true true n most from other None is le h = absurd (cc h)
 full_by false less n most from other (Some next) is le h = absurd (cc h)
 full_by false less n most from other None is le h = absurd (cc h)
 
-pub as_many : (frames : List Frame) → length (brackets frames) ≡ length frames
+pub as_many : (trees : List OpenTree) → length (brackets trees) ≡ length trees
 as_many [] = refl
-as_many (frame ∷ frames) = ap suc (as_many frames)
+as_many (tree ∷ trees) = ap suc (as_many trees)
 
 deep_at : (most : ℕ) (before : List Token) (one : Token) (rest : List Token) (end : ℕ) (last : State) (from : ℕ) → reach most start before ≡ Ok last
     → step most last one ≡ Err (TooDeep from) → IsGood most [] before last → IsTooDeepDocument most (before ++ one ∷ rest) end from
 deep_at most before one rest end last from is deep good =
-    let full = full_by (opens (terminal one.kind)) (nat_lt (length last.frames) most) (length last.frames) most one.span.from from
-    (after_terminal last.place last.frames (terminal one.kind)) refl good.1 deep in
+    let full = full_by (opens (terminal one.kind)) (nat_lt (length last.trees) most) (length last.trees) most one.span.from from
+    (after_terminal last.expecting last.trees (terminal one.kind)) refl good.1 deep in
     subst (IsTooDeepDocument most (before ++ one ∷ rest) end) (place_there before one rest end ∙ full.2)
     (at_bracket (length before) (record {
       opens = opens_there before one rest ∙ full.0;
       before = subst (BeginSome ADocument most) (sym (before_it before one rest)) (begun most before last is good.0);
-      full = ap (λ tokens. length (open_after tokens)) (before_it before one rest) ∙ sym (ap length good.2) ∙ as_many last.frames ∙ full.1;
+      full = ap (λ tokens. length (open_after tokens)) (before_it before one rest) ∙ sym (ap length good.2) ∙ as_many last.trees ∙ full.1;
     }))
 
 pub too_deep : (most : ℕ) (tokens : List Token) (end from : ℕ) → run most start tokens ≡ Err (TooDeep from) → IsTooDeepDocument most tokens end from
@@ -238,5 +238,5 @@ too_deep most tokens end from h =
     subst (λ all. IsTooDeepDocument most all end from) (sym found.4)
     (deep_at most found.0 found.1 found.2 end found.3 from found.5 found.6 found.7)
 
-pub open_brackets : (most : ℕ) (tokens : List Token) (last : State) → reach most start tokens ≡ Ok last → brackets last.frames ≡ open_after tokens
+pub open_brackets : (most : ℕ) (tokens : List Token) (last : State) → reach most start tokens ≡ Ok last → brackets last.trees ≡ open_after tokens
 open_brackets most tokens last h = (reaches most tokens start last tt (omega arith) h).2

@@ -58,10 +58,10 @@ deep_at most tokens end index fault =
     let found = leads most (take index tokens) fault.before in
     let last = found.0 in
     let good = reaches most (take index tokens) start last tt (omega arith) found.1 in
-    let full : length last.frames ≡ most = sym (as_many last.frames) ∙ ap length good.2 ∙ fault.full in
+    let full : length last.trees ≡ most = sym (as_many last.trees) ∙ ap length good.2 ∙ fault.full in
     run_there most tokens end index at last (Err (TooDeep at.0.span.from)) found.1
-    (full_bracket (opens (terminal at.0.kind)) (nat_lt (length last.frames) most) (length last.frames) most at.0.span.from
-    (or_wrong at.0.span.from (after_terminal last.place last.frames (terminal at.0.kind))) (sym at.5 ∙ fault.opens) refl full)
+    (full_bracket (opens (terminal at.0.kind)) (nat_lt (length last.trees) most) (length last.trees) most at.0.span.from
+    (or_wrong at.0.span.from (after_terminal last.expecting last.trees (terminal at.0.kind))) (sym at.5 ∙ fault.opens) refl full)
     ∙ ap (λ from. Err (TooDeep from)) (sym at.4)
 
 pub deep_refused : (most : ℕ) (tokens : List Token) (end place : ℕ) → IsTooDeepDocument most tokens end place → run most start tokens ≡ Err (TooDeep place)
@@ -74,7 +74,7 @@ deep_by false from other None h = absurd (cc h)
 
 deep_place : (most : ℕ) (last : State) (one : Token) (from : ℕ) → step most last one ≡ Err (TooDeep from) → one.span.from ≡ from
 deep_place most last one from h =
-    deep_by (opens (terminal one.kind) && not (nat_lt (length last.frames) most)) one.span.from from (after_terminal last.place last.frames (terminal one.kind)) h
+    deep_by (opens (terminal one.kind) && not (nat_lt (length last.trees) most)) one.span.from from (after_terminal last.expecting last.trees (terminal one.kind)) h
 
 -- how a run ends at a fault of syntax
 abbrev IsRefused : ℕ → List Token → (end place : ℕ) → Type 0
@@ -110,7 +110,7 @@ refused most tokens end _ (at_token index fault) shallow =
     refused_by (step most found.0 at.0) most tokens end index at found.0 found.1 refl fault shallow
 refused most tokens end _ (at_end fault) shallow =
     let found = leads most tokens fault.begun in
-    ended_by (value_at found.0.place) most tokens end (ap ended found.1) fault
+    ended_by (value_at found.0.expecting) most tokens end (ap ended found.1) fault
 
 pub wrong_refused : (most : ℕ) (tokens : List Token) (end place : ℕ) → IsWrongDocument most tokens end place → IsRefused most tokens end place
 wrong_refused most tokens end place fault = refused most tokens end place fault.syntax fault.shallow

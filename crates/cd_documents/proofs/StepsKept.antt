@@ -1,4 +1,4 @@
--- A step keeps places and open forms together, open forms and open brackets, and the bound on these.
+-- A step keeps what may come next and open forms together, open forms and open brackets, and the bound on these.
 use Rattle.std.proofs.Common.{◌≡◌, ◌∙◌, sym, ap, refl, subst, ◌⊎◌, inl, inr, ℕ, suc, ◌<◌, ◌≤◌, Bool, true, false, not, List, [], ◌∷◌, length, Option, Some, None, Result, Ok, Err, arith}
 use Rattle.std.proofs.lemmas.Bool.Decides.{nat_tests}
 use Rattle.std.specs.Prelude.{nat_lt, ◌&&◌, if◌then◌else◌, map}
@@ -6,209 +6,209 @@ use Rattle.cd_syntax.specs.declared.tokens.Token.{Token}
 use Rattle.cd_model.specs.Thing.{Thing, Integer, Character, Atom, Xml, Record, NoField}
 use Rattle.cd_documents.specs.Document.{the_nil, characters_before, is_among}
 use Rattle.cd_documents.specs.Terminal.{Terminal, terminal, opens, Number, Letters, Text, AnAtom, Label, OpenTuple, OpenSequence, OpenRecord, OpenTag, CloseTuple, CloseSequence, CloseRecord, CloseTag, Equal, Comma, Semicolon, NoTerminal, Bracket, ATuple, ASequence, ARecord, ATag, AContent, after_value, opened}
-use Rattle.cd_documents.specs.Machine.{Place, AtValue, AtItem, AfterPart, AtField, AfterField, AtTag, AtAttribute, AfterAttribute, AtEqual, Done, Frame, InTuple, InSequence, InRecord, InTag, InContent, State, state, Fault, Syntax, TooDeep, bracket_of, pairs, with_fields, put, after_terminal, or_wrong, step, Fits}
+use Rattle.cd_documents.specs.Machine.{Expecting, AtValue, AtItem, AfterPart, AtField, AfterField, AtTag, AtAttribute, AfterAttribute, AtEqual, Done, OpenTree, InTuple, InSequence, InRecord, InTag, InContent, State, state, Fault, Syntax, TooDeep, bracket_of, pairs, with_fields, put, after_terminal, or_wrong, step, Fits}
 
-abbrev pub brackets : List Frame → List Bracket
-brackets frames = map bracket_of frames
+abbrev pub brackets : List OpenTree → List Bracket
+brackets trees = map bracket_of trees
 
-abbrev Keeps : List Frame → Terminal → State → Type 0
-Keeps frames is next = Fits next.place next.frames × (brackets next.frames ≡ opened is (brackets frames))
+abbrev Keeps : List OpenTree → Terminal → State → Type 0
+Keeps trees is next = Fits next.expecting next.trees × (brackets next.trees ≡ opened is (brackets trees))
 
-abbrev Kept : List Frame → Terminal → Option State → Type 0
-Kept frames is None = Unit {0}
-Kept frames is (Some next) = Keeps frames is next
+abbrev Kept : List OpenTree → Terminal → Option State → Type 0
+Kept trees is None = Unit {0}
+Kept trees is (Some next) = Keeps trees is next
 
-put_kept : (value : Thing) (frames : List Frame) → Fits (put value frames).place (put value frames).frames × (brackets (put value frames).frames ≡ after_value (brackets frames))
+put_kept : (value : Thing) (trees : List OpenTree) → Fits (put value trees).expecting (put value trees).trees × (brackets (put value trees).trees ≡ after_value (brackets trees))
 put_kept value [] = (tt, refl)
-put_kept value (InTuple before ∷ frames) = (tt, refl)
-put_kept value (InSequence before ∷ frames) = (tt, refl)
-put_kept value (InRecord labels values ∷ frames) = (tt, refl)
-put_kept value (InTag tag labels values ∷ frames) = (tt, refl)
-put_kept value (InContent tag attributes ∷ frames) = put_kept (Xml (Atom tag) (Record attributes) value) frames
+put_kept value (InTuple before ∷ trees) = (tt, refl)
+put_kept value (InSequence before ∷ trees) = (tt, refl)
+put_kept value (InRecord labels values ∷ trees) = (tt, refl)
+put_kept value (InTag tag labels values ∷ trees) = (tt, refl)
+put_kept value (InContent tag attributes ∷ trees) = put_kept (Xml (Atom tag) (Record attributes) value) trees
 
-label_kept : (b : Bool) (frames : List Frame) (is : Terminal) (next : State) → Keeps frames is next → Kept frames is (if b then None else Some next)
-label_kept true frames is next keeps = tt
-label_kept false frames is next keeps = keeps
+label_kept : (b : Bool) (trees : List OpenTree) (is : Terminal) (next : State) → Keeps trees is next → Kept trees is (if b then None else Some next)
+label_kept true trees is next keeps = tt
+label_kept false trees is next keeps = keeps
 
-value_kept : (is : Terminal) (frames : List Frame) → Kept frames is (after_terminal AtValue frames is)
-value_kept (Number n) frames = put_kept (Integer n) frames
-value_kept (Letters []) frames = tt
-value_kept (Letters (c ∷ [])) frames = put_kept (Character c) frames
-value_kept (Letters (c ∷ d ∷ cs)) frames = tt
-value_kept (Text cs) frames = put_kept (characters_before cs the_nil) frames
-value_kept (AnAtom name) frames = put_kept (Atom name) frames
-value_kept OpenTuple frames = (tt, refl)
-value_kept OpenSequence frames = (tt, refl)
-value_kept OpenRecord frames = (tt, refl)
-value_kept OpenTag frames = (tt, refl)
-value_kept (Label name) frames = tt
-value_kept CloseTuple frames = tt
-value_kept CloseSequence frames = tt
-value_kept CloseRecord frames = tt
-value_kept CloseTag frames = tt
-value_kept Equal frames = tt
-value_kept Comma frames = tt
-value_kept Semicolon frames = tt
-value_kept NoTerminal frames = tt
+value_kept : (is : Terminal) (trees : List OpenTree) → Kept trees is (after_terminal AtValue trees is)
+value_kept (Number n) trees = put_kept (Integer n) trees
+value_kept (Letters []) trees = tt
+value_kept (Letters (c ∷ [])) trees = put_kept (Character c) trees
+value_kept (Letters (c ∷ d ∷ cs)) trees = tt
+value_kept (Text cs) trees = put_kept (characters_before cs the_nil) trees
+value_kept (AnAtom name) trees = put_kept (Atom name) trees
+value_kept OpenTuple trees = (tt, refl)
+value_kept OpenSequence trees = (tt, refl)
+value_kept OpenRecord trees = (tt, refl)
+value_kept OpenTag trees = (tt, refl)
+value_kept (Label name) trees = tt
+value_kept CloseTuple trees = tt
+value_kept CloseSequence trees = tt
+value_kept CloseRecord trees = tt
+value_kept CloseTag trees = tt
+value_kept Equal trees = tt
+value_kept Comma trees = tt
+value_kept Semicolon trees = tt
+value_kept NoTerminal trees = tt
 
-kept : (is : Terminal) (place : Place) (frames : List Frame) → Fits place frames → Kept frames is (after_terminal place frames is)
-kept is AtValue frames fits = value_kept is frames
-kept (Number n) AtItem (InSequence before ∷ frames) fits = value_kept (Number n) (InSequence before ∷ frames)
-kept (Letters cs) AtItem (InSequence before ∷ frames) fits = (tt, refl)
-kept (Text cs) AtItem (InSequence before ∷ frames) fits = value_kept (Text cs) (InSequence before ∷ frames)
-kept (AnAtom name) AtItem (InSequence before ∷ frames) fits = value_kept (AnAtom name) (InSequence before ∷ frames)
-kept (Label name) AtItem (InSequence before ∷ frames) fits = value_kept (Label name) (InSequence before ∷ frames)
-kept OpenTuple AtItem (InSequence before ∷ frames) fits = value_kept OpenTuple (InSequence before ∷ frames)
-kept CloseTuple AtItem (InSequence before ∷ frames) fits = value_kept CloseTuple (InSequence before ∷ frames)
-kept OpenSequence AtItem (InSequence before ∷ frames) fits = value_kept OpenSequence (InSequence before ∷ frames)
-kept CloseSequence AtItem (InSequence before ∷ frames) fits = put_kept (pairs before the_nil) frames
-kept OpenRecord AtItem (InSequence before ∷ frames) fits = value_kept OpenRecord (InSequence before ∷ frames)
-kept CloseRecord AtItem (InSequence before ∷ frames) fits = value_kept CloseRecord (InSequence before ∷ frames)
-kept OpenTag AtItem (InSequence before ∷ frames) fits = value_kept OpenTag (InSequence before ∷ frames)
-kept CloseTag AtItem (InSequence before ∷ frames) fits = value_kept CloseTag (InSequence before ∷ frames)
-kept Equal AtItem (InSequence before ∷ frames) fits = value_kept Equal (InSequence before ∷ frames)
-kept Comma AtItem (InSequence before ∷ frames) fits = value_kept Comma (InSequence before ∷ frames)
-kept Semicolon AtItem (InSequence before ∷ frames) fits = value_kept Semicolon (InSequence before ∷ frames)
-kept NoTerminal AtItem (InSequence before ∷ frames) fits = value_kept NoTerminal (InSequence before ∷ frames)
-kept (Number n) AfterPart (InTuple (last ∷ before) ∷ frames) fits = tt
-kept (Letters cs) AfterPart (InTuple (last ∷ before) ∷ frames) fits = tt
-kept (Text cs) AfterPart (InTuple (last ∷ before) ∷ frames) fits = tt
-kept (AnAtom name) AfterPart (InTuple (last ∷ before) ∷ frames) fits = tt
-kept (Label name) AfterPart (InTuple (last ∷ before) ∷ frames) fits = tt
-kept OpenTuple AfterPart (InTuple (last ∷ before) ∷ frames) fits = tt
-kept CloseTuple AfterPart (InTuple (last ∷ before) ∷ frames) fits = put_kept (pairs before last) frames
-kept OpenSequence AfterPart (InTuple (last ∷ before) ∷ frames) fits = tt
-kept CloseSequence AfterPart (InTuple (last ∷ before) ∷ frames) fits = tt
-kept OpenRecord AfterPart (InTuple (last ∷ before) ∷ frames) fits = tt
-kept CloseRecord AfterPart (InTuple (last ∷ before) ∷ frames) fits = tt
-kept OpenTag AfterPart (InTuple (last ∷ before) ∷ frames) fits = tt
-kept CloseTag AfterPart (InTuple (last ∷ before) ∷ frames) fits = tt
-kept Equal AfterPart (InTuple (last ∷ before) ∷ frames) fits = tt
-kept Comma AfterPart (InTuple (last ∷ before) ∷ frames) fits = (tt, refl)
-kept Semicolon AfterPart (InTuple (last ∷ before) ∷ frames) fits = tt
-kept NoTerminal AfterPart (InTuple (last ∷ before) ∷ frames) fits = tt
-kept (Number n) AtField (InRecord labels values ∷ frames) fits = tt
-kept (Letters cs) AtField (InRecord labels values ∷ frames) fits = tt
-kept (Text cs) AtField (InRecord labels values ∷ frames) fits = tt
-kept (AnAtom name) AtField (InRecord labels values ∷ frames) fits = tt
-kept (Label name) AtField (InRecord labels values ∷ frames) fits = label_kept (is_among name labels) (InRecord labels values ∷ frames) (Label name) (state AtEqual (InRecord (name ∷ labels) values ∷ frames)) (tt, refl)
-kept OpenTuple AtField (InRecord labels values ∷ frames) fits = tt
-kept CloseTuple AtField (InRecord labels values ∷ frames) fits = tt
-kept OpenSequence AtField (InRecord labels values ∷ frames) fits = tt
-kept CloseSequence AtField (InRecord labels values ∷ frames) fits = tt
-kept OpenRecord AtField (InRecord labels values ∷ frames) fits = tt
-kept CloseRecord AtField (InRecord labels values ∷ frames) fits = put_kept (Record (with_fields labels values NoField)) frames
-kept OpenTag AtField (InRecord labels values ∷ frames) fits = tt
-kept CloseTag AtField (InRecord labels values ∷ frames) fits = tt
-kept Equal AtField (InRecord labels values ∷ frames) fits = tt
-kept Comma AtField (InRecord labels values ∷ frames) fits = tt
-kept Semicolon AtField (InRecord labels values ∷ frames) fits = tt
-kept NoTerminal AtField (InRecord labels values ∷ frames) fits = tt
-kept (Number n) AfterField (InRecord labels values ∷ frames) fits = tt
-kept (Letters cs) AfterField (InRecord labels values ∷ frames) fits = tt
-kept (Text cs) AfterField (InRecord labels values ∷ frames) fits = tt
-kept (AnAtom name) AfterField (InRecord labels values ∷ frames) fits = tt
-kept (Label name) AfterField (InRecord labels values ∷ frames) fits = tt
-kept OpenTuple AfterField (InRecord labels values ∷ frames) fits = tt
-kept CloseTuple AfterField (InRecord labels values ∷ frames) fits = tt
-kept OpenSequence AfterField (InRecord labels values ∷ frames) fits = tt
-kept CloseSequence AfterField (InRecord labels values ∷ frames) fits = tt
-kept OpenRecord AfterField (InRecord labels values ∷ frames) fits = tt
-kept CloseRecord AfterField (InRecord labels values ∷ frames) fits = put_kept (Record (with_fields labels values NoField)) frames
-kept OpenTag AfterField (InRecord labels values ∷ frames) fits = tt
-kept CloseTag AfterField (InRecord labels values ∷ frames) fits = tt
-kept Equal AfterField (InRecord labels values ∷ frames) fits = tt
-kept Comma AfterField (InRecord labels values ∷ frames) fits = tt
-kept Semicolon AfterField (InRecord labels values ∷ frames) fits = (tt, refl)
-kept NoTerminal AfterField (InRecord labels values ∷ frames) fits = tt
-kept (Number n) AtTag (InTag tag labels values ∷ frames) fits = tt
-kept (Letters cs) AtTag (InTag tag labels values ∷ frames) fits = tt
-kept (Text cs) AtTag (InTag tag labels values ∷ frames) fits = tt
-kept (AnAtom name) AtTag (InTag tag labels values ∷ frames) fits = tt
-kept (Label name) AtTag (InTag tag labels values ∷ frames) fits = (tt, refl)
-kept OpenTuple AtTag (InTag tag labels values ∷ frames) fits = tt
-kept CloseTuple AtTag (InTag tag labels values ∷ frames) fits = tt
-kept OpenSequence AtTag (InTag tag labels values ∷ frames) fits = tt
-kept CloseSequence AtTag (InTag tag labels values ∷ frames) fits = tt
-kept OpenRecord AtTag (InTag tag labels values ∷ frames) fits = tt
-kept CloseRecord AtTag (InTag tag labels values ∷ frames) fits = tt
-kept OpenTag AtTag (InTag tag labels values ∷ frames) fits = tt
-kept CloseTag AtTag (InTag tag labels values ∷ frames) fits = tt
-kept Equal AtTag (InTag tag labels values ∷ frames) fits = tt
-kept Comma AtTag (InTag tag labels values ∷ frames) fits = tt
-kept Semicolon AtTag (InTag tag labels values ∷ frames) fits = tt
-kept NoTerminal AtTag (InTag tag labels values ∷ frames) fits = tt
-kept (Number n) AtAttribute (InTag tag labels values ∷ frames) fits = tt
-kept (Letters cs) AtAttribute (InTag tag labels values ∷ frames) fits = tt
-kept (Text cs) AtAttribute (InTag tag labels values ∷ frames) fits = tt
-kept (AnAtom name) AtAttribute (InTag tag labels values ∷ frames) fits = tt
-kept (Label name) AtAttribute (InTag tag labels values ∷ frames) fits = label_kept (is_among name labels) (InTag tag labels values ∷ frames) (Label name) (state AtEqual (InTag tag (name ∷ labels) values ∷ frames)) (tt, refl)
-kept OpenTuple AtAttribute (InTag tag labels values ∷ frames) fits = tt
-kept CloseTuple AtAttribute (InTag tag labels values ∷ frames) fits = tt
-kept OpenSequence AtAttribute (InTag tag labels values ∷ frames) fits = tt
-kept CloseSequence AtAttribute (InTag tag labels values ∷ frames) fits = tt
-kept OpenRecord AtAttribute (InTag tag labels values ∷ frames) fits = tt
-kept CloseRecord AtAttribute (InTag tag labels values ∷ frames) fits = tt
-kept OpenTag AtAttribute (InTag tag labels values ∷ frames) fits = tt
-kept CloseTag AtAttribute (InTag tag labels values ∷ frames) fits = (tt, refl)
-kept Equal AtAttribute (InTag tag labels values ∷ frames) fits = tt
-kept Comma AtAttribute (InTag tag labels values ∷ frames) fits = tt
-kept Semicolon AtAttribute (InTag tag labels values ∷ frames) fits = tt
-kept NoTerminal AtAttribute (InTag tag labels values ∷ frames) fits = tt
-kept (Number n) AfterAttribute (InTag tag labels values ∷ frames) fits = tt
-kept (Letters cs) AfterAttribute (InTag tag labels values ∷ frames) fits = tt
-kept (Text cs) AfterAttribute (InTag tag labels values ∷ frames) fits = tt
-kept (AnAtom name) AfterAttribute (InTag tag labels values ∷ frames) fits = tt
-kept (Label name) AfterAttribute (InTag tag labels values ∷ frames) fits = label_kept (is_among name labels) (InTag tag labels values ∷ frames) (Label name) (state AtEqual (InTag tag (name ∷ labels) values ∷ frames)) (tt, refl)
-kept OpenTuple AfterAttribute (InTag tag labels values ∷ frames) fits = tt
-kept CloseTuple AfterAttribute (InTag tag labels values ∷ frames) fits = tt
-kept OpenSequence AfterAttribute (InTag tag labels values ∷ frames) fits = tt
-kept CloseSequence AfterAttribute (InTag tag labels values ∷ frames) fits = tt
-kept OpenRecord AfterAttribute (InTag tag labels values ∷ frames) fits = tt
-kept CloseRecord AfterAttribute (InTag tag labels values ∷ frames) fits = tt
-kept OpenTag AfterAttribute (InTag tag labels values ∷ frames) fits = tt
-kept CloseTag AfterAttribute (InTag tag labels values ∷ frames) fits = (tt, refl)
-kept Equal AfterAttribute (InTag tag labels values ∷ frames) fits = tt
-kept Comma AfterAttribute (InTag tag labels values ∷ frames) fits = tt
-kept Semicolon AfterAttribute (InTag tag labels values ∷ frames) fits = (tt, refl)
-kept NoTerminal AfterAttribute (InTag tag labels values ∷ frames) fits = tt
-kept (Number n) AtEqual (InTag tag labels values ∷ frames) fits = tt
-kept (Letters cs) AtEqual (InTag tag labels values ∷ frames) fits = tt
-kept (Text cs) AtEqual (InTag tag labels values ∷ frames) fits = tt
-kept (AnAtom name) AtEqual (InTag tag labels values ∷ frames) fits = tt
-kept (Label name) AtEqual (InTag tag labels values ∷ frames) fits = tt
-kept OpenTuple AtEqual (InTag tag labels values ∷ frames) fits = tt
-kept CloseTuple AtEqual (InTag tag labels values ∷ frames) fits = tt
-kept OpenSequence AtEqual (InTag tag labels values ∷ frames) fits = tt
-kept CloseSequence AtEqual (InTag tag labels values ∷ frames) fits = tt
-kept OpenRecord AtEqual (InTag tag labels values ∷ frames) fits = tt
-kept CloseRecord AtEqual (InTag tag labels values ∷ frames) fits = tt
-kept OpenTag AtEqual (InTag tag labels values ∷ frames) fits = tt
-kept CloseTag AtEqual (InTag tag labels values ∷ frames) fits = tt
-kept Equal AtEqual (InTag tag labels values ∷ frames) fits = (tt, refl)
-kept Comma AtEqual (InTag tag labels values ∷ frames) fits = tt
-kept Semicolon AtEqual (InTag tag labels values ∷ frames) fits = tt
-kept NoTerminal AtEqual (InTag tag labels values ∷ frames) fits = tt
-kept (Number n) AtEqual (InRecord labels values ∷ frames) fits = tt
-kept (Letters cs) AtEqual (InRecord labels values ∷ frames) fits = tt
-kept (Text cs) AtEqual (InRecord labels values ∷ frames) fits = tt
-kept (AnAtom name) AtEqual (InRecord labels values ∷ frames) fits = tt
-kept (Label name) AtEqual (InRecord labels values ∷ frames) fits = tt
-kept OpenTuple AtEqual (InRecord labels values ∷ frames) fits = tt
-kept CloseTuple AtEqual (InRecord labels values ∷ frames) fits = tt
-kept OpenSequence AtEqual (InRecord labels values ∷ frames) fits = tt
-kept CloseSequence AtEqual (InRecord labels values ∷ frames) fits = tt
-kept OpenRecord AtEqual (InRecord labels values ∷ frames) fits = tt
-kept CloseRecord AtEqual (InRecord labels values ∷ frames) fits = tt
-kept OpenTag AtEqual (InRecord labels values ∷ frames) fits = tt
-kept CloseTag AtEqual (InRecord labels values ∷ frames) fits = tt
-kept Equal AtEqual (InRecord labels values ∷ frames) fits = (tt, refl)
-kept Comma AtEqual (InRecord labels values ∷ frames) fits = tt
-kept Semicolon AtEqual (InRecord labels values ∷ frames) fits = tt
-kept NoTerminal AtEqual (InRecord labels values ∷ frames) fits = tt
-kept is (Done value) frames fits = tt
+kept : (is : Terminal) (expecting : Expecting) (trees : List OpenTree) → Fits expecting trees → Kept trees is (after_terminal expecting trees is)
+kept is AtValue trees fits = value_kept is trees
+kept (Number n) AtItem (InSequence before ∷ trees) fits = value_kept (Number n) (InSequence before ∷ trees)
+kept (Letters cs) AtItem (InSequence before ∷ trees) fits = (tt, refl)
+kept (Text cs) AtItem (InSequence before ∷ trees) fits = value_kept (Text cs) (InSequence before ∷ trees)
+kept (AnAtom name) AtItem (InSequence before ∷ trees) fits = value_kept (AnAtom name) (InSequence before ∷ trees)
+kept (Label name) AtItem (InSequence before ∷ trees) fits = value_kept (Label name) (InSequence before ∷ trees)
+kept OpenTuple AtItem (InSequence before ∷ trees) fits = value_kept OpenTuple (InSequence before ∷ trees)
+kept CloseTuple AtItem (InSequence before ∷ trees) fits = value_kept CloseTuple (InSequence before ∷ trees)
+kept OpenSequence AtItem (InSequence before ∷ trees) fits = value_kept OpenSequence (InSequence before ∷ trees)
+kept CloseSequence AtItem (InSequence before ∷ trees) fits = put_kept (pairs before the_nil) trees
+kept OpenRecord AtItem (InSequence before ∷ trees) fits = value_kept OpenRecord (InSequence before ∷ trees)
+kept CloseRecord AtItem (InSequence before ∷ trees) fits = value_kept CloseRecord (InSequence before ∷ trees)
+kept OpenTag AtItem (InSequence before ∷ trees) fits = value_kept OpenTag (InSequence before ∷ trees)
+kept CloseTag AtItem (InSequence before ∷ trees) fits = value_kept CloseTag (InSequence before ∷ trees)
+kept Equal AtItem (InSequence before ∷ trees) fits = value_kept Equal (InSequence before ∷ trees)
+kept Comma AtItem (InSequence before ∷ trees) fits = value_kept Comma (InSequence before ∷ trees)
+kept Semicolon AtItem (InSequence before ∷ trees) fits = value_kept Semicolon (InSequence before ∷ trees)
+kept NoTerminal AtItem (InSequence before ∷ trees) fits = value_kept NoTerminal (InSequence before ∷ trees)
+kept (Number n) AfterPart (InTuple (last ∷ before) ∷ trees) fits = tt
+kept (Letters cs) AfterPart (InTuple (last ∷ before) ∷ trees) fits = tt
+kept (Text cs) AfterPart (InTuple (last ∷ before) ∷ trees) fits = tt
+kept (AnAtom name) AfterPart (InTuple (last ∷ before) ∷ trees) fits = tt
+kept (Label name) AfterPart (InTuple (last ∷ before) ∷ trees) fits = tt
+kept OpenTuple AfterPart (InTuple (last ∷ before) ∷ trees) fits = tt
+kept CloseTuple AfterPart (InTuple (last ∷ before) ∷ trees) fits = put_kept (pairs before last) trees
+kept OpenSequence AfterPart (InTuple (last ∷ before) ∷ trees) fits = tt
+kept CloseSequence AfterPart (InTuple (last ∷ before) ∷ trees) fits = tt
+kept OpenRecord AfterPart (InTuple (last ∷ before) ∷ trees) fits = tt
+kept CloseRecord AfterPart (InTuple (last ∷ before) ∷ trees) fits = tt
+kept OpenTag AfterPart (InTuple (last ∷ before) ∷ trees) fits = tt
+kept CloseTag AfterPart (InTuple (last ∷ before) ∷ trees) fits = tt
+kept Equal AfterPart (InTuple (last ∷ before) ∷ trees) fits = tt
+kept Comma AfterPart (InTuple (last ∷ before) ∷ trees) fits = (tt, refl)
+kept Semicolon AfterPart (InTuple (last ∷ before) ∷ trees) fits = tt
+kept NoTerminal AfterPart (InTuple (last ∷ before) ∷ trees) fits = tt
+kept (Number n) AtField (InRecord labels values ∷ trees) fits = tt
+kept (Letters cs) AtField (InRecord labels values ∷ trees) fits = tt
+kept (Text cs) AtField (InRecord labels values ∷ trees) fits = tt
+kept (AnAtom name) AtField (InRecord labels values ∷ trees) fits = tt
+kept (Label name) AtField (InRecord labels values ∷ trees) fits = label_kept (is_among name labels) (InRecord labels values ∷ trees) (Label name) (state AtEqual (InRecord (name ∷ labels) values ∷ trees)) (tt, refl)
+kept OpenTuple AtField (InRecord labels values ∷ trees) fits = tt
+kept CloseTuple AtField (InRecord labels values ∷ trees) fits = tt
+kept OpenSequence AtField (InRecord labels values ∷ trees) fits = tt
+kept CloseSequence AtField (InRecord labels values ∷ trees) fits = tt
+kept OpenRecord AtField (InRecord labels values ∷ trees) fits = tt
+kept CloseRecord AtField (InRecord labels values ∷ trees) fits = put_kept (Record (with_fields labels values NoField)) trees
+kept OpenTag AtField (InRecord labels values ∷ trees) fits = tt
+kept CloseTag AtField (InRecord labels values ∷ trees) fits = tt
+kept Equal AtField (InRecord labels values ∷ trees) fits = tt
+kept Comma AtField (InRecord labels values ∷ trees) fits = tt
+kept Semicolon AtField (InRecord labels values ∷ trees) fits = tt
+kept NoTerminal AtField (InRecord labels values ∷ trees) fits = tt
+kept (Number n) AfterField (InRecord labels values ∷ trees) fits = tt
+kept (Letters cs) AfterField (InRecord labels values ∷ trees) fits = tt
+kept (Text cs) AfterField (InRecord labels values ∷ trees) fits = tt
+kept (AnAtom name) AfterField (InRecord labels values ∷ trees) fits = tt
+kept (Label name) AfterField (InRecord labels values ∷ trees) fits = tt
+kept OpenTuple AfterField (InRecord labels values ∷ trees) fits = tt
+kept CloseTuple AfterField (InRecord labels values ∷ trees) fits = tt
+kept OpenSequence AfterField (InRecord labels values ∷ trees) fits = tt
+kept CloseSequence AfterField (InRecord labels values ∷ trees) fits = tt
+kept OpenRecord AfterField (InRecord labels values ∷ trees) fits = tt
+kept CloseRecord AfterField (InRecord labels values ∷ trees) fits = put_kept (Record (with_fields labels values NoField)) trees
+kept OpenTag AfterField (InRecord labels values ∷ trees) fits = tt
+kept CloseTag AfterField (InRecord labels values ∷ trees) fits = tt
+kept Equal AfterField (InRecord labels values ∷ trees) fits = tt
+kept Comma AfterField (InRecord labels values ∷ trees) fits = tt
+kept Semicolon AfterField (InRecord labels values ∷ trees) fits = (tt, refl)
+kept NoTerminal AfterField (InRecord labels values ∷ trees) fits = tt
+kept (Number n) AtTag (InTag tag labels values ∷ trees) fits = tt
+kept (Letters cs) AtTag (InTag tag labels values ∷ trees) fits = tt
+kept (Text cs) AtTag (InTag tag labels values ∷ trees) fits = tt
+kept (AnAtom name) AtTag (InTag tag labels values ∷ trees) fits = tt
+kept (Label name) AtTag (InTag tag labels values ∷ trees) fits = (tt, refl)
+kept OpenTuple AtTag (InTag tag labels values ∷ trees) fits = tt
+kept CloseTuple AtTag (InTag tag labels values ∷ trees) fits = tt
+kept OpenSequence AtTag (InTag tag labels values ∷ trees) fits = tt
+kept CloseSequence AtTag (InTag tag labels values ∷ trees) fits = tt
+kept OpenRecord AtTag (InTag tag labels values ∷ trees) fits = tt
+kept CloseRecord AtTag (InTag tag labels values ∷ trees) fits = tt
+kept OpenTag AtTag (InTag tag labels values ∷ trees) fits = tt
+kept CloseTag AtTag (InTag tag labels values ∷ trees) fits = tt
+kept Equal AtTag (InTag tag labels values ∷ trees) fits = tt
+kept Comma AtTag (InTag tag labels values ∷ trees) fits = tt
+kept Semicolon AtTag (InTag tag labels values ∷ trees) fits = tt
+kept NoTerminal AtTag (InTag tag labels values ∷ trees) fits = tt
+kept (Number n) AtAttribute (InTag tag labels values ∷ trees) fits = tt
+kept (Letters cs) AtAttribute (InTag tag labels values ∷ trees) fits = tt
+kept (Text cs) AtAttribute (InTag tag labels values ∷ trees) fits = tt
+kept (AnAtom name) AtAttribute (InTag tag labels values ∷ trees) fits = tt
+kept (Label name) AtAttribute (InTag tag labels values ∷ trees) fits = label_kept (is_among name labels) (InTag tag labels values ∷ trees) (Label name) (state AtEqual (InTag tag (name ∷ labels) values ∷ trees)) (tt, refl)
+kept OpenTuple AtAttribute (InTag tag labels values ∷ trees) fits = tt
+kept CloseTuple AtAttribute (InTag tag labels values ∷ trees) fits = tt
+kept OpenSequence AtAttribute (InTag tag labels values ∷ trees) fits = tt
+kept CloseSequence AtAttribute (InTag tag labels values ∷ trees) fits = tt
+kept OpenRecord AtAttribute (InTag tag labels values ∷ trees) fits = tt
+kept CloseRecord AtAttribute (InTag tag labels values ∷ trees) fits = tt
+kept OpenTag AtAttribute (InTag tag labels values ∷ trees) fits = tt
+kept CloseTag AtAttribute (InTag tag labels values ∷ trees) fits = (tt, refl)
+kept Equal AtAttribute (InTag tag labels values ∷ trees) fits = tt
+kept Comma AtAttribute (InTag tag labels values ∷ trees) fits = tt
+kept Semicolon AtAttribute (InTag tag labels values ∷ trees) fits = tt
+kept NoTerminal AtAttribute (InTag tag labels values ∷ trees) fits = tt
+kept (Number n) AfterAttribute (InTag tag labels values ∷ trees) fits = tt
+kept (Letters cs) AfterAttribute (InTag tag labels values ∷ trees) fits = tt
+kept (Text cs) AfterAttribute (InTag tag labels values ∷ trees) fits = tt
+kept (AnAtom name) AfterAttribute (InTag tag labels values ∷ trees) fits = tt
+kept (Label name) AfterAttribute (InTag tag labels values ∷ trees) fits = label_kept (is_among name labels) (InTag tag labels values ∷ trees) (Label name) (state AtEqual (InTag tag (name ∷ labels) values ∷ trees)) (tt, refl)
+kept OpenTuple AfterAttribute (InTag tag labels values ∷ trees) fits = tt
+kept CloseTuple AfterAttribute (InTag tag labels values ∷ trees) fits = tt
+kept OpenSequence AfterAttribute (InTag tag labels values ∷ trees) fits = tt
+kept CloseSequence AfterAttribute (InTag tag labels values ∷ trees) fits = tt
+kept OpenRecord AfterAttribute (InTag tag labels values ∷ trees) fits = tt
+kept CloseRecord AfterAttribute (InTag tag labels values ∷ trees) fits = tt
+kept OpenTag AfterAttribute (InTag tag labels values ∷ trees) fits = tt
+kept CloseTag AfterAttribute (InTag tag labels values ∷ trees) fits = (tt, refl)
+kept Equal AfterAttribute (InTag tag labels values ∷ trees) fits = tt
+kept Comma AfterAttribute (InTag tag labels values ∷ trees) fits = tt
+kept Semicolon AfterAttribute (InTag tag labels values ∷ trees) fits = (tt, refl)
+kept NoTerminal AfterAttribute (InTag tag labels values ∷ trees) fits = tt
+kept (Number n) AtEqual (InTag tag labels values ∷ trees) fits = tt
+kept (Letters cs) AtEqual (InTag tag labels values ∷ trees) fits = tt
+kept (Text cs) AtEqual (InTag tag labels values ∷ trees) fits = tt
+kept (AnAtom name) AtEqual (InTag tag labels values ∷ trees) fits = tt
+kept (Label name) AtEqual (InTag tag labels values ∷ trees) fits = tt
+kept OpenTuple AtEqual (InTag tag labels values ∷ trees) fits = tt
+kept CloseTuple AtEqual (InTag tag labels values ∷ trees) fits = tt
+kept OpenSequence AtEqual (InTag tag labels values ∷ trees) fits = tt
+kept CloseSequence AtEqual (InTag tag labels values ∷ trees) fits = tt
+kept OpenRecord AtEqual (InTag tag labels values ∷ trees) fits = tt
+kept CloseRecord AtEqual (InTag tag labels values ∷ trees) fits = tt
+kept OpenTag AtEqual (InTag tag labels values ∷ trees) fits = tt
+kept CloseTag AtEqual (InTag tag labels values ∷ trees) fits = tt
+kept Equal AtEqual (InTag tag labels values ∷ trees) fits = (tt, refl)
+kept Comma AtEqual (InTag tag labels values ∷ trees) fits = tt
+kept Semicolon AtEqual (InTag tag labels values ∷ trees) fits = tt
+kept NoTerminal AtEqual (InTag tag labels values ∷ trees) fits = tt
+kept (Number n) AtEqual (InRecord labels values ∷ trees) fits = tt
+kept (Letters cs) AtEqual (InRecord labels values ∷ trees) fits = tt
+kept (Text cs) AtEqual (InRecord labels values ∷ trees) fits = tt
+kept (AnAtom name) AtEqual (InRecord labels values ∷ trees) fits = tt
+kept (Label name) AtEqual (InRecord labels values ∷ trees) fits = tt
+kept OpenTuple AtEqual (InRecord labels values ∷ trees) fits = tt
+kept CloseTuple AtEqual (InRecord labels values ∷ trees) fits = tt
+kept OpenSequence AtEqual (InRecord labels values ∷ trees) fits = tt
+kept CloseSequence AtEqual (InRecord labels values ∷ trees) fits = tt
+kept OpenRecord AtEqual (InRecord labels values ∷ trees) fits = tt
+kept CloseRecord AtEqual (InRecord labels values ∷ trees) fits = tt
+kept OpenTag AtEqual (InRecord labels values ∷ trees) fits = tt
+kept CloseTag AtEqual (InRecord labels values ∷ trees) fits = tt
+kept Equal AtEqual (InRecord labels values ∷ trees) fits = (tt, refl)
+kept Comma AtEqual (InRecord labels values ∷ trees) fits = tt
+kept Semicolon AtEqual (InRecord labels values ∷ trees) fits = tt
+kept NoTerminal AtEqual (InRecord labels values ∷ trees) fits = tt
+kept is (Done value) trees fits = tt
 kept is AtItem [] fits = absurd fits
-kept is place frames fits = absurd fits
+kept is expecting trees fits = absurd fits
 
 -- how many brackets are open
 no_more : (all : List Bracket) → length (after_value all) ≤ length all
@@ -280,9 +280,9 @@ grown_by_one Comma all opening = absurd (cc opening)
 grown_by_one Semicolon all opening = absurd (cc opening)
 grown_by_one NoTerminal all opening = absurd (cc opening)
 
-as_many : (frames : List Frame) → length (brackets frames) ≡ length frames
+as_many : (trees : List OpenTree) → length (brackets trees) ≡ length trees
 as_many [] = refl
-as_many (frame ∷ frames) = ap suc (as_many frames)
+as_many (tree ∷ trees) = ap suc (as_many trees)
 
 -- a step that is no refusal for depth
 abbrev pub IsShallow : Result State Fault → Type 0
@@ -308,14 +308,14 @@ room : (is : Terminal) (all : List Bracket) (n most : ℕ) → length all ≡ n 
 room is all n most same le (inl closed) = let grows = grown is all closed in omega (arith, same, le, grows)
 room is all n most same le (inr (opening, lt)) = let grows = grown_by_one is all opening in omega (arith, same, lt, grows)
 
-pub step_kept : (most : ℕ) (now : State) (one : Token) (next : State) → Fits now.place now.frames → length now.frames ≤ most → step most now one ≡ Ok next
-    → Fits next.place next.frames × (brackets next.frames ≡ opened (terminal one.kind) (brackets now.frames)) × (length next.frames ≤ most)
+pub step_kept : (most : ℕ) (now : State) (one : Token) (next : State) → Fits now.expecting now.trees → length now.trees ≤ most → step most now one ≡ Ok next
+    → Fits next.expecting next.trees × (brackets next.trees ≡ opened (terminal one.kind) (brackets now.trees)) × (length next.trees ≤ most)
 step_kept most now one next fits le h =
     let is = terminal one.kind in
-    let open_at = shallow (opens is && not (nat_lt (length now.frames) most)) one.span.from (or_wrong one.span.from (after_terminal now.place now.frames is)) (Ok next) tt h in
-    let made : after_terminal now.place now.frames is ≡ Some next = some_next one.span.from (after_terminal now.place now.frames is) next open_at.1 in
-    let keeps : Keeps now.frames is next = subst (Kept now.frames is) made (kept is now.place now.frames fits) in
-    let bound : length (opened is (brackets now.frames)) ≤ most =
-    room is (brackets now.frames) (length now.frames) most (as_many now.frames) le
-    (few (opens is) (nat_lt (length now.frames) most) (length now.frames) most refl open_at.0 le) in
-    (keeps.0, keeps.1, subst (λ n. n ≤ most) (sym (ap length keeps.1) ∙ as_many next.frames) bound)
+    let open_at = shallow (opens is && not (nat_lt (length now.trees) most)) one.span.from (or_wrong one.span.from (after_terminal now.expecting now.trees is)) (Ok next) tt h in
+    let made : after_terminal now.expecting now.trees is ≡ Some next = some_next one.span.from (after_terminal now.expecting now.trees is) next open_at.1 in
+    let keeps : Keeps now.trees is next = subst (Kept now.trees is) made (kept is now.expecting now.trees fits) in
+    let bound : length (opened is (brackets now.trees)) ≤ most =
+    room is (brackets now.trees) (length now.trees) most (as_many now.trees) le
+    (few (opens is) (nat_lt (length now.trees) most) (length now.trees) most refl open_at.0 le) in
+    (keeps.0, keeps.1, subst (λ n. n ≤ most) (sym (ap length keeps.1) ∙ as_many next.trees) bound)

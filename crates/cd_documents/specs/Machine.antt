@@ -1,5 +1,5 @@
--- The machine that reads documents: a state is a place, which says what may come next, and a stack
--- of the forms that are open.
+-- The machine that reads documents: a state says what may come next, and has a stack of the forms
+-- that are open.
 use Rattle.std.specs.Prelude.{◌≡◌, ℕ, Bool, not, ◌&&◌, List, [], ◌∷◌, length}
 use Rattle.std.specs.Prelude.{Option, Some, None, Result, Ok, Err, nat_lt, if◌then◌else◌}
 use Rattle.cd_syntax.specs.declared.tokens.Token.{Token}
@@ -14,39 +14,39 @@ use Rattle.cd_documents.specs.Terminal.{Semicolon, Bracket, ATuple, ASequence, A
 use Rattle.cd_documents.specs.Terminal.{ATag, AContent}
 
 -- what may come next
-pub data Place : Type 0 where
-  AtValue : Place
-  AtItem : Place
-  AfterPart : Place
-  AtField : Place
-  AfterField : Place
-  AtTag : Place
-  AtAttribute : Place
-  AfterAttribute : Place
-  AtEqual : Place
-  Done : Thing → Place
+pub data Expecting : Type 0 where
+  AtValue : Expecting
+  AtItem : Expecting
+  AfterPart : Expecting
+  AtField : Expecting
+  AfterField : Expecting
+  AtTag : Expecting
+  AtAttribute : Expecting
+  AfterAttribute : Expecting
+  AtEqual : Expecting
+  Done : Thing → Expecting
 
 -- A form that is open, with what was read of it, the last first. Fields whose last one has no value
 -- yet have one more label. A tag has the name `[]` until its own is read
-pub data Frame : Type 0 where
-  InTuple : List Thing → Frame
-  InSequence : List Thing → Frame
-  InRecord : (labels : List Name) (values : List Thing) → Frame
-  InTag : (tag : Name) (labels : List Name) (values : List Thing) → Frame
-  InContent : (tag : Name) (attributes : Fields) → Frame
+pub data OpenTree : Type 0 where
+  InTuple : List Thing → OpenTree
+  InSequence : List Thing → OpenTree
+  InRecord : (labels : List Name) (values : List Thing) → OpenTree
+  InTag : (tag : Name) (labels : List Name) (values : List Thing) → OpenTree
+  InContent : (tag : Name) (attributes : Fields) → OpenTree
 
 pub record State : Type 0 where
-  pub place : Place
-  pub frames : List Frame
+  pub expecting : Expecting
+  pub trees : List OpenTree
 
-abbrev pub state : Place → List Frame → State
-state place frames = record { place = place; frames = frames }
+abbrev pub state : Expecting → List OpenTree → State
+state expecting trees = record { expecting = expecting; trees = trees }
 
 abbrev pub start : State
 start = state AtValue []
 
 -- the bracket of a form
-abbrev pub bracket_of : Frame → Bracket
+abbrev pub bracket_of : OpenTree → Bracket
 bracket_of (InTuple before) = ATuple
 bracket_of (InSequence before) = ASequence
 bracket_of (InRecord labels values) = ARecord
@@ -74,112 +74,112 @@ with_fields (label ∷ labels) (value ∷ values) rest =
 with_fields labels values rest = rest
 
 -- the state after a value: it ends each content that it is
-abbrev pub put : Thing → List Frame → State
+abbrev pub put : Thing → List OpenTree → State
 put value [] = state (Done value) []
-put value (InTuple before ∷ frames) = state AfterPart (InTuple (value ∷ before) ∷ frames)
-put value (InSequence before ∷ frames) = state AtItem (InSequence (value ∷ before) ∷ frames)
-put value (InRecord labels values ∷ frames) =
-    state AfterField (InRecord labels (value ∷ values) ∷ frames)
-put value (InTag tag labels values ∷ frames) =
-    state AfterAttribute (InTag tag labels (value ∷ values) ∷ frames)
-put value (InContent tag attributes ∷ frames) =
-    put (Xml (Atom tag) (Record attributes) value) frames
+put value (InTuple before ∷ trees) = state AfterPart (InTuple (value ∷ before) ∷ trees)
+put value (InSequence before ∷ trees) = state AtItem (InSequence (value ∷ before) ∷ trees)
+put value (InRecord labels values ∷ trees) =
+    state AfterField (InRecord labels (value ∷ values) ∷ trees)
+put value (InTag tag labels values ∷ trees) =
+    state AfterAttribute (InTag tag labels (value ∷ values) ∷ trees)
+put value (InContent tag attributes ∷ trees) =
+    put (Xml (Atom tag) (Record attributes) value) trees
 
--- the state after a terminal at each place, if it can stand there
-abbrev pub at_value : List Frame → Terminal → Option State
-at_value frames (Number n) = Some (put (Integer n) frames)
-at_value frames (Letters (c ∷ [])) = Some (put (Character c) frames)
-at_value frames (Text cs) = Some (put (characters_before cs the_nil) frames)
-at_value frames (AnAtom name) = Some (put (Atom name) frames)
-at_value frames OpenTuple = Some (state AtValue (InTuple [] ∷ frames))
-at_value frames OpenSequence = Some (state AtItem (InSequence [] ∷ frames))
-at_value frames OpenRecord = Some (state AtField (InRecord [] [] ∷ frames))
-at_value frames OpenTag = Some (state AtTag (InTag [] [] [] ∷ frames))
-at_value frames _ = None
+-- the state after a terminal, for each thing that may come next, if it can stand there
+abbrev pub at_value : List OpenTree → Terminal → Option State
+at_value trees (Number n) = Some (put (Integer n) trees)
+at_value trees (Letters (c ∷ [])) = Some (put (Character c) trees)
+at_value trees (Text cs) = Some (put (characters_before cs the_nil) trees)
+at_value trees (AnAtom name) = Some (put (Atom name) trees)
+at_value trees OpenTuple = Some (state AtValue (InTuple [] ∷ trees))
+at_value trees OpenSequence = Some (state AtItem (InSequence [] ∷ trees))
+at_value trees OpenRecord = Some (state AtField (InRecord [] [] ∷ trees))
+at_value trees OpenTag = Some (state AtTag (InTag [] [] [] ∷ trees))
+at_value trees _ = None
 
-abbrev pub at_item : List Frame → Terminal → Option State
-at_item (InSequence before ∷ frames) CloseSequence = Some (put (pairs before the_nil) frames)
-at_item (InSequence before ∷ frames) (Letters cs) =
-    Some (state AtItem (InSequence (letters_onto cs before) ∷ frames))
-at_item frames is = at_value frames is
+abbrev pub at_item : List OpenTree → Terminal → Option State
+at_item (InSequence before ∷ trees) CloseSequence = Some (put (pairs before the_nil) trees)
+at_item (InSequence before ∷ trees) (Letters cs) =
+    Some (state AtItem (InSequence (letters_onto cs before) ∷ trees))
+at_item trees is = at_value trees is
 
-abbrev pub after_part : List Frame → Terminal → Option State
-after_part (InTuple (last ∷ before) ∷ frames) CloseTuple = Some (put (pairs before last) frames)
-after_part frames Comma = Some (state AtValue frames)
-after_part frames _ = None
+abbrev pub after_part : List OpenTree → Terminal → Option State
+after_part (InTuple (last ∷ before) ∷ trees) CloseTuple = Some (put (pairs before last) trees)
+after_part trees Comma = Some (state AtValue trees)
+after_part trees _ = None
 
 -- a label that is none of those before
-abbrev pub label_of : List Frame → Name → Option State
-label_of (InRecord labels values ∷ frames) label =
+abbrev pub label_of : List OpenTree → Name → Option State
+label_of (InRecord labels values ∷ trees) label =
     if is_among label labels then None
-    else Some (state AtEqual (InRecord (label ∷ labels) values ∷ frames))
-label_of (InTag tag labels values ∷ frames) label =
+    else Some (state AtEqual (InRecord (label ∷ labels) values ∷ trees))
+label_of (InTag tag labels values ∷ trees) label =
     if is_among label labels then None
-    else Some (state AtEqual (InTag tag (label ∷ labels) values ∷ frames))
-label_of frames label = None
+    else Some (state AtEqual (InTag tag (label ∷ labels) values ∷ trees))
+label_of trees label = None
 
-abbrev pub close_record : List Frame → Option State
-close_record (InRecord labels values ∷ frames) =
-    Some (put (Record (with_fields labels values NoField)) frames)
-close_record frames = None
+abbrev pub close_record : List OpenTree → Option State
+close_record (InRecord labels values ∷ trees) =
+    Some (put (Record (with_fields labels values NoField)) trees)
+close_record trees = None
 
-abbrev pub close_tag : List Frame → Option State
-close_tag (InTag tag labels values ∷ frames) =
-    Some (state AtValue (InContent tag (with_fields labels values NoField) ∷ frames))
-close_tag frames = None
+abbrev pub close_tag : List OpenTree → Option State
+close_tag (InTag tag labels values ∷ trees) =
+    Some (state AtValue (InContent tag (with_fields labels values NoField) ∷ trees))
+close_tag trees = None
 
-abbrev pub at_field : List Frame → Terminal → Option State
-at_field frames (Label label) = label_of frames label
-at_field frames CloseRecord = close_record frames
-at_field frames _ = None
+abbrev pub at_field : List OpenTree → Terminal → Option State
+at_field trees (Label label) = label_of trees label
+at_field trees CloseRecord = close_record trees
+at_field trees _ = None
 
-abbrev pub after_field : List Frame → Terminal → Option State
-after_field frames Semicolon = Some (state AtField frames)
-after_field frames CloseRecord = close_record frames
-after_field frames _ = None
+abbrev pub after_field : List OpenTree → Terminal → Option State
+after_field trees Semicolon = Some (state AtField trees)
+after_field trees CloseRecord = close_record trees
+after_field trees _ = None
 
-abbrev pub at_tag : List Frame → Terminal → Option State
-at_tag (InTag _ labels values ∷ frames) (Label tag) =
-    Some (state AtAttribute (InTag tag labels values ∷ frames))
-at_tag frames _ = None
+abbrev pub at_tag : List OpenTree → Terminal → Option State
+at_tag (InTag _ labels values ∷ trees) (Label tag) =
+    Some (state AtAttribute (InTag tag labels values ∷ trees))
+at_tag trees _ = None
 
-abbrev pub at_attribute : List Frame → Terminal → Option State
-at_attribute frames (Label label) = label_of frames label
-at_attribute frames CloseTag = close_tag frames
-at_attribute frames _ = None
+abbrev pub at_attribute : List OpenTree → Terminal → Option State
+at_attribute trees (Label label) = label_of trees label
+at_attribute trees CloseTag = close_tag trees
+at_attribute trees _ = None
 
-abbrev pub after_attribute : List Frame → Terminal → Option State
-after_attribute frames Semicolon = Some (state AtAttribute frames)
-after_attribute frames is = at_attribute frames is
+abbrev pub after_attribute : List OpenTree → Terminal → Option State
+after_attribute trees Semicolon = Some (state AtAttribute trees)
+after_attribute trees is = at_attribute trees is
 
-abbrev pub at_equal : List Frame → Terminal → Option State
-at_equal frames Equal = Some (state AtValue frames)
-at_equal frames _ = None
+abbrev pub at_equal : List OpenTree → Terminal → Option State
+at_equal trees Equal = Some (state AtValue trees)
+at_equal trees _ = None
 
-abbrev pub after_terminal : Place → List Frame → Terminal → Option State
-after_terminal AtValue frames is = at_value frames is
-after_terminal AtItem frames is = at_item frames is
-after_terminal AfterPart frames is = after_part frames is
-after_terminal AtField frames is = at_field frames is
-after_terminal AfterField frames is = after_field frames is
-after_terminal AtTag frames is = at_tag frames is
-after_terminal AtAttribute frames is = at_attribute frames is
-after_terminal AfterAttribute frames is = after_attribute frames is
-after_terminal AtEqual frames is = at_equal frames is
-after_terminal (Done value) frames is = None
+abbrev pub after_terminal : Expecting → List OpenTree → Terminal → Option State
+after_terminal AtValue trees is = at_value trees is
+after_terminal AtItem trees is = at_item trees is
+after_terminal AfterPart trees is = after_part trees is
+after_terminal AtField trees is = at_field trees is
+after_terminal AfterField trees is = after_field trees is
+after_terminal AtTag trees is = at_tag trees is
+after_terminal AtAttribute trees is = at_attribute trees is
+after_terminal AfterAttribute trees is = after_attribute trees is
+after_terminal AtEqual trees is = at_equal trees is
+after_terminal (Done value) trees is = None
 
 abbrev pub or_wrong : ℕ → Option State → Result State Fault
 or_wrong from (Some next) = Ok next
 or_wrong from None = Err (Syntax from)
 
 -- an opening bracket where so many are open is too deep, whether or not it could stand there
-abbrev pub is_too_deep : ℕ → List Frame → Terminal → Bool
-is_too_deep most frames is = opens is && not (nat_lt (length frames) most)
+abbrev pub is_too_deep : ℕ → List OpenTree → Terminal → Bool
+is_too_deep most trees is = opens is && not (nat_lt (length trees) most)
 
 abbrev pub step_on : ℕ → State → ℕ → Terminal → Result State Fault
 step_on most now from is =
-    if is_too_deep most now.frames is then Err (TooDeep from)
-    else or_wrong from (after_terminal now.place now.frames is)
+    if is_too_deep most now.trees is then Err (TooDeep from)
+    else or_wrong from (after_terminal now.expecting now.trees is)
 
 abbrev pub step : ℕ → State → Token → Result State Fault
 step most now next = step_on most now next.span.from (terminal next.kind)
@@ -194,40 +194,40 @@ reach most now [] = Ok now
 reach most now (first ∷ tokens) = and_then (step most now first) (λ next. reach most next tokens)
 
 -- the value where all is read
-abbrev pub value_at : Place → Option Thing
+abbrev pub value_at : Expecting → Option Thing
 value_at (Done value) = Some value
-value_at place = None
+value_at expecting = None
 
 abbrev pub ended : Result State Fault → Result (Option Thing) Fault
-ended (Ok last) = Ok (value_at last.place)
+ended (Ok last) = Ok (value_at last.expecting)
 ended (Err fault) = Err fault
 
 -- the value of a document, none where the tokens end before it is whole
 abbrev pub run : ℕ → State → List Token → Result (Option Thing) Fault
 run most now tokens = ended (reach most now tokens)
 
--- the places that go with the forms that are open
-abbrev pub Fits : Place → List Frame → Type 0
-Fits AtValue frames = Unit {0}
-Fits AtItem (InSequence before ∷ frames) = Unit {0}
-Fits AtItem frames = ⊥
-Fits AfterPart (InTuple (last ∷ before) ∷ frames) = Unit {0}
-Fits AfterPart frames = ⊥
-Fits AtField (InRecord labels values ∷ frames) = Unit {0}
-Fits AtField frames = ⊥
-Fits AfterField (InRecord labels values ∷ frames) = Unit {0}
-Fits AfterField frames = ⊥
-Fits AtTag (InTag tag labels values ∷ frames) = Unit {0}
-Fits AtTag frames = ⊥
-Fits AtAttribute (InTag tag labels values ∷ frames) = Unit {0}
-Fits AtAttribute frames = ⊥
-Fits AfterAttribute (InTag tag labels values ∷ frames) = Unit {0}
-Fits AfterAttribute frames = ⊥
-Fits AtEqual (InTag tag labels values ∷ frames) = Unit {0}
-Fits AtEqual (InRecord labels values ∷ frames) = Unit {0}
-Fits AtEqual frames = ⊥
+-- what may come next fits the forms that are open
+abbrev pub Fits : Expecting → List OpenTree → Type 0
+Fits AtValue trees = Unit {0}
+Fits AtItem (InSequence before ∷ trees) = Unit {0}
+Fits AtItem trees = ⊥
+Fits AfterPart (InTuple (last ∷ before) ∷ trees) = Unit {0}
+Fits AfterPart trees = ⊥
+Fits AtField (InRecord labels values ∷ trees) = Unit {0}
+Fits AtField trees = ⊥
+Fits AfterField (InRecord labels values ∷ trees) = Unit {0}
+Fits AfterField trees = ⊥
+Fits AtTag (InTag tag labels values ∷ trees) = Unit {0}
+Fits AtTag trees = ⊥
+Fits AtAttribute (InTag tag labels values ∷ trees) = Unit {0}
+Fits AtAttribute trees = ⊥
+Fits AfterAttribute (InTag tag labels values ∷ trees) = Unit {0}
+Fits AfterAttribute trees = ⊥
+Fits AtEqual (InTag tag labels values ∷ trees) = Unit {0}
+Fits AtEqual (InRecord labels values ∷ trees) = Unit {0}
+Fits AtEqual trees = ⊥
 Fits (Done value) [] = Unit {0}
-Fits (Done value) frames = ⊥
+Fits (Done value) trees = ⊥
 
 -- some tokens end a document from this state on
 abbrev pub Ends : ℕ → State → Type 0

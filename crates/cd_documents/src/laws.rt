@@ -7,8 +7,8 @@ ghost use Rattle.cd_syntax.specs.Tokens.{Lexes};
 ghost use Rattle.cd_model.specs.AllOf.{AllOf};
 ghost use Rattle.cd_model.specs.Thing.{Thing, IsValue, IsData};
 ghost use Rattle.cd_documents.specs.Document.{the_nil, IsDocument};
-ghost use Rattle.cd_documents.specs.Machine.{Place, Frame, AtValue, state, start, put, run, Fits};
-ghost use Rattle.cd_documents.specs.Machine.{State, Syntax, TooDeep, bracket_of, reach, Ends};
+ghost use Rattle.cd_documents.specs.Machine.{Expecting, OpenTree, AtValue, state, start, put, run};
+ghost use Rattle.cd_documents.specs.Machine.{Fits, State, Syntax, TooDeep, bracket_of, reach, Ends};
 ghost use Rattle.cd_documents.specs.Terminal.{open_after};
 ghost use Rattle.cd_documents.specs.Examples.{text_tokens, text_value, tuple_tokens, tuple_value};
 ghost use Rattle.cd_documents.specs.Examples.{number_tokens, number_value, character_tokens};
@@ -24,8 +24,8 @@ ghost use Rattle.cd_documents.specs.DocumentFaults.{IsWrongDocument, IsTooDeepDo
 /// follows; so it reads each document.
 pub fn reads_what_is_written()
     ensures comes { (depth most : ℕ) (tokens more : List Token) (value : Thing)
-        (frames : List Frame) → IsDocument depth tokens value → depth + length frames ≤ most
-        → run most (state AtValue frames) (tokens ++ more) ≡ run most (put value frames) more }
+        (trees : List OpenTree) → IsDocument depth tokens value → depth + length trees ≤ most
+        → run most (state AtValue trees) (tokens ++ more) ≡ run most (put value trees) more }
     ensures reads { (most : ℕ) (tokens : List Token) (value : Thing)
         → IsDocument most tokens value → run most start tokens ≡ Ok (Some value) }
 {}
@@ -45,8 +45,8 @@ pub fn tokens_have_one_value()
 /// From each state some tokens end a document, however few brackets may be open: so none of these
 /// opens a bracket.
 pub fn each_state_ends()
-    ensures { (most : ℕ) (place : Place) (frames : List Frame)
-        → Fits place frames → Ends most (state place frames) }
+    ensures { (most : ℕ) (expecting : Expecting) (trees : List OpenTree)
+        → Fits expecting trees → Ends most (state expecting trees) }
 {}
 
 /// The value of a document is data: no function is in it. Where the tokens are those of a text, it
@@ -87,7 +87,7 @@ pub fn faults_are_refused()
 /// it has read.
 pub fn open_forms_are_brackets()
     ensures { (most : ℕ) (tokens : List Token) (last : State)
-        → reach most start tokens ≡ Ok last → map bracket_of last.frames ≡ open_after tokens }
+        → reach most start tokens ≡ Ok last → map bracket_of last.trees ≡ open_after tokens }
 {}
 
 /// Values at some texts: fields stand by label in a record, and a `''` in a sequence adds nothing.

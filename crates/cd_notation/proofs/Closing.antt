@@ -3,7 +3,7 @@ use Rattle.std.proofs.Common.{◌≡◌, ◌∙◌, ap, subst, sym, refl, ℕ, �
 use Rattle.cd_syntax.specs.Name.{Name}
 use Rattle.cd_model.specs.AllOf.{AllOf}
 use Rattle.cd_model.specs.Thing.{Thing, Fields, NoField, Atom, Record}
-use Rattle.cd_documents.specs.Machine.{Frame, state, InRecord, InTag, InContent, AtValue, put, pairs, with_fields, close_record, close_tag}
+use Rattle.cd_documents.specs.Machine.{OpenTree, state, InRecord, InTag, InContent, AtValue, put, pairs, with_fields, close_record, close_tag}
 use Rattle.cd_cells.specs.declared.values.Values.{Values}
 use Rattle.cd_cells.specs.declared.cell.ValueId.{ValueId}
 use Rattle.cd_cells.specs.declared.cell.Part.{Part}
@@ -76,18 +76,18 @@ takes_parts values new_values old new first from id parts collects at below_numb
 -- the items of the form were gathered, and the value was put
 pub closed : (old one two : Values) (reader last : Reader) (from end id : ℕ) (left : List ValueId) (next : Expecting) → Grows old one
     → IsGathered (table old) from reader.items end (table one) left id
-    → ((is : Thing) (frames : List Frame) → IsAt (table one) id is → IsOpen (names one) (table one) reader.forms left reader.labels frames → Stands two next last (put is frames))
+    → ((is : Thing) (trees : List OpenTree) → IsAt (table one) id is → IsOpen (names one) (table one) reader.forms left reader.labels trees → Stands two next last (put is trees))
     → IsClosed old reader from end two (Some next) last
-closed old one two reader last from end id left next grows gathers stands below all final frames has at are =
+closed old one two reader last from end id left next grows gathers stands below all final trees has at are =
     let made = gathers below all final has at in
-    stands (pairs all final) frames made.1
-    (open_at (names one) (table one) reader.forms below left reader.labels frames made.0 (open_grown old one grows reader.forms below reader.labels frames are))
+    stands (pairs all final) trees made.1
+    (open_at (names one) (table one) reader.forms below left reader.labels trees made.0 (open_grown old one grows reader.forms below reader.labels trees are))
 
 -- what the calls require
 pub record CanPut (one : Values) (forms : List OpenForm) (left : List ValueId) (labels : List ℕ) (id : ℕ) : Type 0 where
   pub within : id < length (table one)
-  pub frames : List Frame
-  pub are : IsOpen (names one) (table one) forms left labels frames
+  pub trees : List OpenTree
+  pub are : IsOpen (names one) (table one) forms left labels trees
 
 pub can_put : (old one : Values) (reader : Reader) (from end id : ℕ) (left : List ValueId) → Grows old one
     → IsGathered (table old) from reader.items end (table one) left id → end < length (table old) → ClosesForms old reader from
@@ -96,41 +96,41 @@ can_put old one reader from end id left grows gathers within closes =
     let made = gathers closes.below closes.all (thing_at (table old) end) closes.items record { within = within; is = refl } in
     record {
       within = made.1.within;
-      frames = closes.frames;
-      are = open_at (names one) (table one) reader.forms closes.below left reader.labels closes.frames made.0
-          (open_grown old one grows reader.forms closes.below reader.labels closes.frames closes.forms);
+      trees = closes.trees;
+      are = open_at (names one) (table one) reader.forms closes.below left reader.labels closes.trees made.0
+          (open_grown old one grows reader.forms closes.below reader.labels closes.trees closes.forms);
     }
 
 -- the forms of a reader from which one ended
-pub can_close : (old one : Values) (reader : Reader) (from : ℕ) (forms : List OpenForm) (items below : List ValueId) (labels : List ℕ) (all : List Thing) (frames : List Frame)
+pub can_close : (old one : Values) (reader : Reader) (from : ℕ) (forms : List OpenForm) (items below : List ValueId) (labels : List ℕ) (all : List Thing) (trees : List OpenTree)
     → Grows old one → reader.forms ≡ forms → reader.items ≡ items → reader.labels ≡ labels → HasItems (table old) from items below all
-    → IsOpen (names old) (table old) forms below labels frames → ClosesForms one reader from
-can_close old one reader from forms items below labels all frames grows are_forms are_items are_labels has are = record {
+    → IsOpen (names old) (table old) forms below labels trees → ClosesForms one reader from
+can_close old one reader from forms items below labels all trees grows are_forms are_items are_labels has are = record {
   below = below;
   all = all;
   items = rw are_items (items_grown old one grows from items below all has);
-  frames = frames;
-  forms = rw (are_forms, are_labels) (open_grown old one grows forms below labels frames are);
+  trees = trees;
+  forms = rw (are_forms, are_labels) (open_grown old one grows forms below labels trees are);
 }
 
 -- a record ends
-pub ends_record : (values : Values) (next : Expecting) (reader : Reader) (frames rest : List Frame) (labels : List Name) (all : List Thing)
-    → frames ≡ InRecord labels all ∷ rest → Stands values next reader (put (Record (with_fields labels all NoField)) rest)
-    → Leads (close_record frames) values (Some next) reader
-ends_record values next reader frames rest labels all is stands =
-    lead_some values next reader (close_record frames) (put (Record (with_fields labels all NoField)) rest) (ap close_record is) stands
+pub ends_record : (values : Values) (next : Expecting) (reader : Reader) (trees rest : List OpenTree) (labels : List Name) (all : List Thing)
+    → trees ≡ InRecord labels all ∷ rest → Stands values next reader (put (Record (with_fields labels all NoField)) rest)
+    → Leads (close_record trees) values (Some next) reader
+ends_record values next reader trees rest labels all is stands =
+    lead_some values next reader (close_record trees) (put (Record (with_fields labels all NoField)) rest) (ap close_record is) stands
 
 -- a tag ends, and its content begins
-pub ends_tag : (values : Values) (tag id : ValueId) (forms : List OpenForm) (items : List ValueId) (numbers : List ℕ) (name : Name) (frames rest : List Frame)
-    (all : List Thing) (labels : List Name) → frames ≡ InTag name labels all ∷ rest
+pub ends_tag : (values : Values) (tag id : ValueId) (forms : List OpenForm) (items : List ValueId) (numbers : List ℕ) (name : Name) (trees rest : List OpenTree)
+    (all : List Thing) (labels : List Name) → trees ≡ InTag name labels all ∷ rest
     → IsAt (table values) tag.0 (Atom name) → IsAt (table values) id.0 (Record (with_fields labels all NoField))
     → IsOpen (names values) (table values) forms items numbers rest
-    → Led (close_tag frames) values expecting.Value (form.Content tag id ∷ forms) items numbers
-ends_tag values tag id forms items numbers name frames rest all labels is tag_at id_at are = record {
+    → Led (close_tag trees) values expecting.Value (form.Content tag id ∷ forms) items numbers
+ends_tag values tag id forms items numbers name trees rest all labels is tag_at id_at are = record {
   now = state AtValue (InContent name (with_fields labels all NoField) ∷ rest);
   is = ap close_tag is;
   stood = record {
-    frames = InContent name (with_fields labels all NoField) ∷ rest;
+    trees = InContent name (with_fields labels all NoField) ∷ rest;
     open_forms = the.content tag id name (with_fields labels all NoField) forms items numbers rest tag_at id_at are;
     is = refl;
     within = tt;

@@ -37,7 +37,7 @@ use Rattle.cd_notation.specs.declared.terminal.Terminal.{Terminal as ATerminal}
 use Rattle.cd_notation.specs.Faulty.{IsFaultOf}
 use Rattle.cd_notation.specs.Inner.PlainTerminal.{plain_terminal}
 use Rattle.cd_notation.specs.Inner.Open as the
-use Rattle.cd_notation.specs.Inner.Leading.{IsStep, plain_place}
+use Rattle.cd_notation.specs.Inner.Leading.{IsStep, plain_expecting}
 use Rattle.cd_notation.specs.Inner.Going.{Going, of_lexer, IsRefusal, ended_of}
 
 -- a step of the reader, with what the machine does
@@ -123,7 +123,7 @@ module _ (text : List ℕ) (lexer : Lexer) (values : Values) (reader : Reader) w
       record {
         tokens = made.all;
         lexes = made.lexes;
-        document = derived most_open made.all (thing_at (table values) id.0) (made.runs ∙ ap (λ (now : State). Ok (machine.value_at now.place)) going.stands.is);
+        document = derived most_open made.all (thing_at (table values) id.0) (made.runs ∙ ap (λ (now : State). Ok (machine.value_at now.expecting)) going.stands.is);
       }
 
   pub not_whole : (next : Expecting) → (end : ℕ) → end ≡ bytes text → Going text lexer values next reader → ((id : ValueId) → next ≡ expecting.Nothing id → ⊥) → LexesOn lexer []
@@ -134,10 +134,10 @@ module _ (text : List ℕ) (lexer : Lexer) (values : Values) (reader : Reader) w
         tokens = made.all;
         lexes = made.lexes;
         wrong = subst (λ (at : ℕ). IsWrongDocument most_open made.all (bytes text) at) (sym is_end)
-            (unfinished_document most_open made.all (bytes text) (made.runs ∙ ap (λ (now : State). Ok (machine.value_at now.place)) going.stands.is ∙ ap Ok (no_value next other)));
+            (unfinished_document most_open made.all (bytes text) (made.runs ∙ ap (λ (now : State). Ok (machine.value_at now.expecting)) going.stands.is ∙ ap Ok (no_value next other)));
       }
     where
-      no_value : (next : Expecting) → ((id : ValueId) → next ≡ expecting.Nothing id → ⊥) → machine.value_at (plain_place (table values) next) ≡ None
+      no_value : (next : Expecting) → ((id : ValueId) → next ≡ expecting.Nothing id → ⊥) → machine.value_at (plain_expecting (table values) next) ≡ None
       no_value expecting.Value other = refl
       no_value expecting.Item other = refl
       no_value expecting.AfterPart other = refl
@@ -164,7 +164,7 @@ pub going_starts : (lexer : Lexer) (values : Values) (reader : Reader) → reade
 going_starts lexer values reader no_forms no_items no_labels at joined = record {
   now = start;
   stands = record {
-    frames = [];
+    trees = [];
     forms = rw (no_forms, no_items, no_labels) the.nothing;
     is = refl;
     within = tt;

@@ -2,7 +2,7 @@
 use Rattle.std.proofs.Common.{◌∙◌, ap, subst, sym, ℕ, List}
 use Rattle.cd_syntax.specs.Name.{Name, IsLabel}
 use Rattle.cd_model.specs.Thing.{Thing, Atom, Record}
-use Rattle.cd_documents.specs.Machine.{Frame}
+use Rattle.cd_documents.specs.Machine.{OpenTree}
 use Rattle.cd_cells.specs.declared.values.Values.{Values}
 use Rattle.cd_cells.specs.declared.cell.ValueId.{ValueId}
 use Rattle.cd_cells.specs.Cells.{name_at}
@@ -35,19 +35,19 @@ module _ (old new : Values) (grows : Grows old new) where
   pub all_labels_grown : (from : ℕ) (numbers below : List ℕ) (labels : List Name) → HasLabels (names old) from numbers below labels → HasLabels (names new) from numbers below labels
   all_labels_grown from numbers below labels has = record { top = has.top; is = has.is; at = labels_grown has.top labels has.at; apart = has.apart }
 
-  pub open_grown : (forms : List OpenForm) (items : List ValueId) (labels : List ℕ) (frames : List Frame)
-      → IsOpen (names old) (table old) forms items labels frames → IsOpen (names new) (table new) forms items labels frames
+  pub open_grown : (forms : List OpenForm) (items : List ValueId) (labels : List ℕ) (trees : List OpenTree)
+      → IsOpen (names old) (table old) forms items labels trees → IsOpen (names new) (table new) forms items labels trees
   open_grown _ _ _ _ the.nothing = the.nothing
-  open_grown _ _ _ _ (the.tuple from forms items below labels values frames has rest) =
-      the.tuple from forms items below labels values frames (items_grown from items below values has) (open_grown forms below labels frames rest)
-  open_grown _ _ _ _ (the.sequence from forms items below labels values frames has rest) =
-      the.sequence from forms items below labels values frames (items_grown from items below values has) (open_grown forms below labels frames rest)
-  open_grown _ _ _ _ (the.fields first from forms items below numbers below_numbers labels values frames named has rest) =
-      the.fields first from forms items below numbers below_numbers labels values frames
-      (all_labels_grown first numbers below_numbers labels named) (items_grown from items below values has) (open_grown forms below below_numbers frames rest)
-  open_grown _ _ _ _ (the.tag tag name first from forms items below numbers below_numbers labels values frames at named has rest) =
-      the.tag tag name first from forms items below numbers below_numbers labels values frames (at_grown old new grows tag.0 (Atom name) at)
-      (all_labels_grown first numbers below_numbers labels named) (items_grown from items below values has) (open_grown forms below below_numbers frames rest)
-  open_grown _ _ _ _ (the.content tag attributes name all forms items numbers frames at at_attributes rest) =
-      the.content tag attributes name all forms items numbers frames (at_grown old new grows tag.0 (Atom name) at) (at_grown old new grows attributes.0 (Record all) at_attributes)
-      (open_grown forms items numbers frames rest)
+  open_grown _ _ _ _ (the.tuple from forms items below labels values trees has rest) =
+      the.tuple from forms items below labels values trees (items_grown from items below values has) (open_grown forms below labels trees rest)
+  open_grown _ _ _ _ (the.sequence from forms items below labels values trees has rest) =
+      the.sequence from forms items below labels values trees (items_grown from items below values has) (open_grown forms below labels trees rest)
+  open_grown _ _ _ _ (the.fields first from forms items below numbers below_numbers labels values trees named has rest) =
+      the.fields first from forms items below numbers below_numbers labels values trees
+      (all_labels_grown first numbers below_numbers labels named) (items_grown from items below values has) (open_grown forms below below_numbers trees rest)
+  open_grown _ _ _ _ (the.tag tag name first from forms items below numbers below_numbers labels values trees at named has rest) =
+      the.tag tag name first from forms items below numbers below_numbers labels values trees (at_grown old new grows tag.0 (Atom name) at)
+      (all_labels_grown first numbers below_numbers labels named) (items_grown from items below values has) (open_grown forms below below_numbers trees rest)
+  open_grown _ _ _ _ (the.content tag attributes name all forms items numbers trees at at_attributes rest) =
+      the.content tag attributes name all forms items numbers trees (at_grown old new grows tag.0 (Atom name) at) (at_grown old new grows attributes.0 (Record all) at_attributes)
+      (open_grown forms items numbers trees rest)

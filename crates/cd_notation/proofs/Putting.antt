@@ -2,7 +2,7 @@
 use Rattle.std.proofs.Common.{◌≡◌, ◌∙◌, ap, subst, sym, refl, ℕ, ◌<◌, List, [], ◌∷◌, ◌++◌, length}
 use Rattle.cd_syntax.specs.Name.{Name}
 use Rattle.cd_model.specs.Thing.{Thing, Fields, Atom, Xml, Record, IsAtom, IsRecord}
-use Rattle.cd_documents.specs.Machine.{Frame, State, state, put, InTuple, InSequence, InRecord, InTag}
+use Rattle.cd_documents.specs.Machine.{OpenTree, State, state, put, InTuple, InSequence, InRecord, InTag}
 use Rattle.cd_cells.specs.declared.values.Values.{Values}
 use Rattle.cd_cells.specs.declared.cell.ValueId.{ValueId}
 use Rattle.cd_cells.specs.Cells.{thing_at}
@@ -15,25 +15,25 @@ use Rattle.cd_notation.specs.declared.form.Expecting.TheVariants as expecting
 use Rattle.cd_notation.specs.declared.reader.Reader.{Reader}
 use Rattle.cd_notation.specs.Inner.Open as the
 use Rattle.cd_notation.specs.Inner.Open.{AreAt, IsTop, HasItems, IsOpen}
-use Rattle.cd_notation.specs.Inner.Leading.{IsOpenIn, HasForms, Stands, after_value_in, plain_place, frames_at, IsWithin}
+use Rattle.cd_notation.specs.Inner.Leading.{IsOpenIn, HasForms, Stands, after_value_in, plain_expecting, trees_at, IsWithin}
 use Rattle.cd_cells.proofs.GrownTables.{further, itself}
 use Rattle.cd_notation.proofs.Growth.{open_grown}
 
 pub record StillPuts (values : Values) (forms : List OpenForm) (items : List ValueId) (labels : List ℕ) (value : ℕ) (made : State) : Type 0 where
   pub is : Thing
-  pub frames : List Frame
+  pub trees : List OpenTree
   pub at : IsAt (table values) value is
-  pub open_forms : IsOpen (names values) (table values) forms items labels frames
-  pub makes : put is frames ≡ made
+  pub open_forms : IsOpen (names values) (table values) forms items labels trees
+  pub makes : put is trees ≡ made
 
 pub record IsPutting (old_values : Values) (old : Reader) (old_value : ℕ) (values : Values) (now : Reader) (value : ℕ) : Type 0 where
-  pub going : (is : Thing) (frames : List Frame) → IsAt (table old_values) old_value is → IsOpenIn old_values old frames
-      → StillPuts values now.forms now.items now.labels value (put is frames)
+  pub going : (is : Thing) (trees : List OpenTree) → IsAt (table old_values) old_value is → IsOpenIn old_values old trees
+      → StillPuts values now.forms now.items now.labels value (put is trees)
   pub grows : Grows old_values values
 
 pub putting_starts : (values : Values) (reader : Reader) (value : ℕ) → IsPutting values reader value values reader value
 putting_starts values reader value = record {
-  going = λ is frames at forms. record { is = is; frames = frames; at = at; open_forms = forms; makes = refl };
+  going = λ is trees at forms. record { is = is; trees = trees; at = at; open_forms = forms; makes = refl };
   grows = itself values;
 }
 
@@ -42,24 +42,24 @@ pub record HasContent (values : Values) (tag attributes : ℕ) (forms : List Ope
   pub name : Name
   pub all : Fields
   pub is : Thing
-  pub frames : List Frame
+  pub trees : List OpenTree
   pub tag_at : IsAt (table values) tag (Atom name)
   pub attributes_at : IsAt (table values) attributes (Record all)
   pub at : IsAt (table values) value is
-  pub open_forms : IsOpen (names values) (table values) forms items labels frames
-  pub makes : put (Xml (Atom name) (Record all) is) frames ≡ made
+  pub open_forms : IsOpen (names values) (table values) forms items labels trees
+  pub makes : put (Xml (Atom name) (Record all) is) trees ≡ made
 
 pub content_of : (values : Values) (tag attributes : ValueId) (forms : List OpenForm) (items : List ValueId) (labels : List ℕ) (value : ℕ) (made : State)
     → StillPuts values (form.Content tag attributes ∷ forms) items labels value made → HasContent values tag.0 attributes.0 forms items labels value made
-content_of values tag attributes forms items labels value made still = by still.frames still.open_forms still.makes
+content_of values tag attributes forms items labels value made still = by still.trees still.open_forms still.makes
   where
-    by : (frames : List Frame) → IsOpen (names values) (table values) (form.Content tag attributes ∷ forms) items labels frames → put still.is frames ≡ made
+    by : (trees : List OpenTree) → IsOpen (names values) (table values) (form.Content tag attributes ∷ forms) items labels trees → put still.is trees ≡ made
         → HasContent values tag.0 attributes.0 forms items labels value made
-    by _ (the.content tag attributes name all forms items numbers frames tag_at attributes_at rest) makes = record {
+    by _ (the.content tag attributes name all forms items numbers trees tag_at attributes_at rest) makes = record {
       name = name;
       all = all;
       is = still.is;
-      frames = frames;
+      trees = trees;
       tag_at = tag_at;
       attributes_at = attributes_at;
       at = still.at;
@@ -77,46 +77,46 @@ still_puts one two tag attributes forms items labels value id made grows is last
     cc (top.tag_at.is, top.attributes_at.is, top.at.is) in
     record {
       is = Xml (Atom top.name) (Record top.all) top.is;
-      frames = top.frames;
+      trees = top.trees;
       at = last_at (table one) (table two) id (Xml (Atom top.name) (Record top.all) top.is) (is ∙ ap (λ (new : Thing). table one ++ new ∷ []) xml) last;
-      open_forms = open_grown one two grows forms items labels top.frames top.open_forms;
+      open_forms = open_grown one two grows forms items labels top.trees top.open_forms;
       makes = top.makes;
     }
 
 -- a state of the machine, by the lists of a reader
 pub record Stood (values : Values) (next : Expecting) (forms : List OpenForm) (items : List ValueId) (labels : List ℕ) (made : State) : Type 0 where
-  pub frames : List Frame
-  pub open_forms : IsOpen (names values) (table values) forms items labels frames
-  pub is : made ≡ state (plain_place (table values) next) (frames_at next frames)
+  pub trees : List OpenTree
+  pub open_forms : IsOpen (names values) (table values) forms items labels trees
+  pub is : made ≡ state (plain_expecting (table values) next) (trees_at next trees)
   pub within : IsWithin (table values) next
 
 pub stands_by : (values : Values) (next : Expecting) (reader : Reader) (forms : List OpenForm) (items : List ValueId) (labels : List ℕ) (made : State)
     → reader.forms ≡ forms → reader.items ≡ items → reader.labels ≡ labels → Stood values next forms items labels made → Stands values next reader made
 stands_by values next reader forms items labels made are_forms are_items are_labels stood = record {
-  frames = stood.frames;
+  trees = stood.trees;
   forms = rw (are_forms, are_items, are_labels) stood.open_forms;
   is = stood.is;
   within = stood.within;
 }
 
-none_open : (labels_of : List Name) (table : List Thing) (forms : List OpenForm) (items : List ValueId) (labels : List ℕ) (frames : List Frame)
-    → IsOpen labels_of table forms items labels frames → forms ≡ [] → frames ≡ []
+none_open : (labels_of : List Name) (table : List Thing) (forms : List OpenForm) (items : List ValueId) (labels : List ℕ) (trees : List OpenTree)
+    → IsOpen labels_of table forms items labels trees → forms ≡ [] → trees ≡ []
 none_open names table _ _ _ _ the.nothing none = refl
-none_open names table _ _ _ _ (the.tuple from forms items below labels values frames has rest) none = absurd (cc none)
-none_open names table _ _ _ _ (the.sequence from forms items below labels values frames has rest) none = absurd (cc none)
-none_open names table _ _ _ _ (the.fields first from forms items below numbers below_numbers labels values frames named has rest) none = absurd (cc none)
-none_open names table _ _ _ _ (the.tag tag name first from forms items below numbers below_numbers labels values frames at named has rest) none = absurd (cc none)
-none_open names table _ _ _ _ (the.content tag attributes name all forms items numbers frames at at_attributes rest) none = absurd (cc none)
+none_open names table _ _ _ _ (the.tuple from forms items below labels values trees has rest) none = absurd (cc none)
+none_open names table _ _ _ _ (the.sequence from forms items below labels values trees has rest) none = absurd (cc none)
+none_open names table _ _ _ _ (the.fields first from forms items below numbers below_numbers labels values trees named has rest) none = absurd (cc none)
+none_open names table _ _ _ _ (the.tag tag name first from forms items below numbers below_numbers labels values trees at named has rest) none = absurd (cc none)
+none_open names table _ _ _ _ (the.content tag attributes name all forms items numbers trees at at_attributes rest) none = absurd (cc none)
 
 -- the value is the whole
 pub puts_whole : (values : Values) (forms : List OpenForm) (items : List ValueId) (labels : List ℕ) (value : ValueId) (made : State) → forms ≡ []
     → StillPuts values forms items labels value.0 made → Stood values (expecting.Nothing value) forms items labels made
 puts_whole values forms items labels value made none still =
-    let no_frames : still.frames ≡ [] = none_open (names values) (table values) forms items labels still.frames still.open_forms none in
+    let no_trees : still.trees ≡ [] = none_open (names values) (table values) forms items labels still.trees still.open_forms none in
     record {
-      frames = still.frames;
+      trees = still.trees;
       open_forms = still.open_forms;
-      is = sym still.makes ∙ ap (put still.is) no_frames ∙ cc (still.at.is, no_frames);
+      is = sym still.makes ∙ ap (put still.is) no_trees ∙ cc (still.at.is, no_trees);
       within = still.at.within;
     }
 
@@ -132,47 +132,47 @@ pushed table from items below values id value at has = record {
 pub puts_part : (values : Values) (one : OpenForm) (forms : List OpenForm) (items : List ValueId) (labels : List ℕ) (value : ValueId) (made : State)
     → ((tag attributes : ValueId) → one ≡ form.Content tag attributes → ⊥)
     → StillPuts values (one ∷ forms) items labels value.0 made → Stood values (after_value_in one) (one ∷ forms) (value ∷ items) labels made
-puts_part values one forms items labels value made no_content still = by one still.frames no_content still.open_forms still.makes
+puts_part values one forms items labels value made no_content still = by one still.trees no_content still.open_forms still.makes
   where
-    by : (one : OpenForm) (frames : List Frame) → ((tag attributes : ValueId) → one ≡ form.Content tag attributes → ⊥)
-        → IsOpen (names values) (table values) (one ∷ forms) items labels frames → put still.is frames ≡ made
+    by : (one : OpenForm) (trees : List OpenTree) → ((tag attributes : ValueId) → one ≡ form.Content tag attributes → ⊥)
+        → IsOpen (names values) (table values) (one ∷ forms) items labels trees → put still.is trees ≡ made
         → Stood values (after_value_in one) (one ∷ forms) (value ∷ items) labels made
-    by _ _ no_content (the.tuple from forms items below labels before frames has rest) makes = record {
-      frames = InTuple (still.is ∷ before) ∷ frames;
-      open_forms = the.tuple from forms (value ∷ items) below labels (still.is ∷ before) frames (pushed (table values) from items below before value still.is still.at has) rest;
+    by _ _ no_content (the.tuple from forms items below labels before trees has rest) makes = record {
+      trees = InTuple (still.is ∷ before) ∷ trees;
+      open_forms = the.tuple from forms (value ∷ items) below labels (still.is ∷ before) trees (pushed (table values) from items below before value still.is still.at has) rest;
       is = sym makes;
       within = tt;
     }
-    by _ _ no_content (the.sequence from forms items below labels before frames has rest) makes = record {
-      frames = InSequence (still.is ∷ before) ∷ frames;
-      open_forms = the.sequence from forms (value ∷ items) below labels (still.is ∷ before) frames (pushed (table values) from items below before value still.is still.at has) rest;
+    by _ _ no_content (the.sequence from forms items below labels before trees has rest) makes = record {
+      trees = InSequence (still.is ∷ before) ∷ trees;
+      open_forms = the.sequence from forms (value ∷ items) below labels (still.is ∷ before) trees (pushed (table values) from items below before value still.is still.at has) rest;
       is = sym makes;
       within = tt;
     }
-    by _ _ no_content (the.fields first from forms items below numbers below_numbers labels before frames named has rest) makes = record {
-      frames = InRecord labels (still.is ∷ before) ∷ frames;
-      open_forms = the.fields first from forms (value ∷ items) below numbers below_numbers labels (still.is ∷ before) frames named
+    by _ _ no_content (the.fields first from forms items below numbers below_numbers labels before trees named has rest) makes = record {
+      trees = InRecord labels (still.is ∷ before) ∷ trees;
+      open_forms = the.fields first from forms (value ∷ items) below numbers below_numbers labels (still.is ∷ before) trees named
           (pushed (table values) from items below before value still.is still.at has) rest;
       is = sym makes;
       within = tt;
     }
-    by _ _ no_content (the.tag tag name first from forms items below numbers below_numbers labels before frames at named has rest) makes = record {
-      frames = InTag name labels (still.is ∷ before) ∷ frames;
-      open_forms = the.tag tag name first from forms (value ∷ items) below numbers below_numbers labels (still.is ∷ before) frames at named
+    by _ _ no_content (the.tag tag name first from forms items below numbers below_numbers labels before trees at named has rest) makes = record {
+      trees = InTag name labels (still.is ∷ before) ∷ trees;
+      open_forms = the.tag tag name first from forms (value ∷ items) below numbers below_numbers labels (still.is ∷ before) trees at named
           (pushed (table values) from items below before value still.is still.at has) rest;
       is = sym makes;
       within = tt;
     }
-    by _ _ no_content (the.content tag attributes name all forms items numbers frames at at_attributes rest) makes = absurd (no_content tag attributes refl)
+    by _ _ no_content (the.content tag attributes name all forms items numbers trees at at_attributes rest) makes = absurd (no_content tag attributes refl)
 
 pub puts_on : (old_values one two : Values) (old now new : Reader) (old_value value id : ℕ) (tag attributes : ValueId) (rest : List OpenForm)
     → IsPutting old_values old old_value one now value → now.forms ≡ form.Content tag attributes ∷ rest → new.forms ≡ rest → new.items ≡ now.items → new.labels ≡ now.labels
     → Grows one two → table two ≡ table one ++ Xml (thing_at (table one) tag.0) (thing_at (table one) attributes.0) (thing_at (table one) value) ∷ []
     → id ≡ length (table one) → IsPutting old_values old old_value two new id
 puts_on old_values one two old now new old_value value id tag attributes rest so_far top rest_is same_items same_labels grows is last = record {
-  going = λ it frames at are.
-      let still = still_puts one two tag attributes rest now.items now.labels value id (put it frames) grows is last
-      (subst (λ (forms : List OpenForm). StillPuts one forms now.items now.labels value (put it frames)) top (so_far.going it frames at are)) in
+  going = λ it trees at are.
+      let still = still_puts one two tag attributes rest now.items now.labels value id (put it trees) grows is last
+      (subst (λ (forms : List OpenForm). StillPuts one forms now.items now.labels value (put it trees)) top (so_far.going it trees at are)) in
       rw (rest_is, same_items, same_labels) still;
   grows = further old_values one two so_far.grows grows;
 }

@@ -24,7 +24,7 @@ impl Reader {
         requires forms { HasForms values.old self.old }
         requires named { IsNamed is (chars name.now) }
         ensures leads { IfOk result (λ next.
-            Follows (λ frames. machine.at_field frames (plain_terminal is (chars name.now)))
+            Follows (λ trees. machine.at_field trees (plain_terminal is (chars name.now)))
             values.old self.old values.new next self.new) }
         ensures grows { Grows values.old values.new }
     {
@@ -43,7 +43,7 @@ impl Reader {
         requires forms { HasForms values.old self.old }
         requires label { IsLabel (chars name.now) }
         ensures leads { IfOk result (λ next.
-            Follows (λ frames. machine.label_of frames (chars name.now))
+            Follows (λ trees. machine.label_of trees (chars name.now))
             values.old self.old values.new next self.new) }
         ensures grows { Grows values.old values.new }
     {
@@ -64,7 +64,7 @@ impl Reader {
     fn close_record(&mut self, values: &mut Values) -> Result<Option<Expecting>, AllocError>
         requires forms { HasForms values.old self.old }
         ensures leads { IfOk result (λ next.
-            Follows (λ frames. machine.close_record frames)
+            Follows (λ trees. machine.close_record trees)
             values.old self.old values.new next self.new) }
         ensures grows { Grows values.old values.new }
     {
@@ -86,7 +86,7 @@ impl Reader {
     ) -> Result<Option<Expecting>, AllocError>
         requires forms { HasForms values.old self.old }
         ensures leads { IfOk result (λ next.
-            Follows (λ frames. machine.after_field frames (plain_terminal is []))
+            Follows (λ trees. machine.after_field trees (plain_terminal is []))
             values.old self.old values.new next self.new) }
         ensures grows { Grows values.old values.new }
     {

@@ -26,7 +26,7 @@ impl Reader {
         requires forms { HasForms values.old self.old }
         requires named { IsNamed is (chars name.now) }
         ensures leads { IfOk result (λ next.
-            Follows (λ frames. machine.at_item frames (plain_terminal is (chars name.now)))
+            Follows (λ trees. machine.at_item trees (plain_terminal is (chars name.now)))
             values.old self.old values.new next self.new) }
         ensures grows { Grows values.old values.new }
     {
@@ -40,7 +40,7 @@ impl Reader {
     fn close_sequence(&mut self, values: &mut Values) -> Result<Option<Expecting>, AllocError>
         requires forms { HasForms values.old self.old }
         ensures leads { IfOk result (λ next.
-            Follows (λ frames. machine.at_item frames CloseSequence)
+            Follows (λ trees. machine.at_item trees CloseSequence)
             values.old self.old values.new next self.new) }
         ensures grows { Grows values.old values.new }
     {
@@ -76,7 +76,7 @@ impl Reader {
     fn letters(&mut self, values: &mut Values, name: &str) -> Result<Option<Expecting>, AllocError>
         requires forms { HasForms values.old self.old }
         ensures leads { IfOk result (λ next.
-            Follows (λ frames. machine.at_item frames (Letters (chars name.now)))
+            Follows (λ trees. machine.at_item trees (Letters (chars name.now)))
             values.old self.old values.new next self.new) }
         ensures grows { Grows values.old values.new }
     {
@@ -97,7 +97,7 @@ impl Reader {
     ) -> Result<Option<Expecting>, AllocError>
         requires forms { HasForms values.old self.old }
         ensures leads { IfOk result (λ next.
-            Follows (λ frames. machine.after_part frames (plain_terminal is []))
+            Follows (λ trees. machine.after_part trees (plain_terminal is []))
             values.old self.old values.new next self.new) }
         ensures grows { Grows values.old values.new }
     {
@@ -111,7 +111,7 @@ impl Reader {
     fn close_tuple(&mut self, values: &mut Values) -> Result<Option<Expecting>, AllocError>
         requires forms { HasForms values.old self.old }
         ensures leads { IfOk result (λ next.
-            Follows (λ frames. machine.after_part frames CloseTuple)
+            Follows (λ trees. machine.after_part trees CloseTuple)
             values.old self.old values.new next self.new) }
         ensures grows { Grows values.old values.new }
     {

@@ -26,8 +26,8 @@ impl Reader {
         requires forms { HasForms values.old self.old }
         requires named { IsNamed is (chars name.now) }
         ensures leads { IfOk result (λ next.
-            Follows (λ frames.
-            machine.at_tag (InTag [] [] [] ∷ frames) (plain_terminal is (chars name.now)))
+            Follows (λ trees.
+            machine.at_tag (InTag [] [] [] ∷ trees) (plain_terminal is (chars name.now)))
             values.old self.old values.new next self.new) }
         ensures grows { Grows values.old values.new }
     {
@@ -41,8 +41,8 @@ impl Reader {
         requires forms { HasForms values.old self.old }
         requires label { IsLabel (chars name.now) }
         ensures leads { IfOk result (λ next.
-            Follows (λ frames.
-            Some (state PlainAtAttribute (InTag (chars name.now) [] [] ∷ frames)))
+            Follows (λ trees.
+            Some (state PlainAtAttribute (InTag (chars name.now) [] [] ∷ trees)))
             values.old self.old values.new next self.new) }
         ensures grows { Grows values.old values.new }
     {
@@ -63,7 +63,7 @@ impl Reader {
         requires forms { HasForms values.old self.old }
         requires named { IsNamed is (chars name.now) }
         ensures leads { IfOk result (λ next.
-            Follows (λ frames. machine.at_attribute frames (plain_terminal is (chars name.now)))
+            Follows (λ trees. machine.at_attribute trees (plain_terminal is (chars name.now)))
             values.old self.old values.new next self.new) }
         ensures grows { Grows values.old values.new }
     {
@@ -77,7 +77,7 @@ impl Reader {
     fn close_tag(&mut self, values: &mut Values) -> Result<Option<Expecting>, AllocError>
         requires forms { HasForms values.old self.old }
         ensures leads { IfOk result (λ next.
-            Follows (λ frames. machine.close_tag frames)
+            Follows (λ trees. machine.close_tag trees)
             values.old self.old values.new next self.new) }
         ensures grows { Grows values.old values.new }
     {
@@ -102,7 +102,7 @@ impl Reader {
         requires forms { HasForms values.old self.old }
         requires named { IsNamed is (chars name.now) }
         ensures leads { IfOk result (λ next.
-            Follows (λ frames. machine.after_attribute frames (plain_terminal is (chars name.now)))
+            Follows (λ trees. machine.after_attribute trees (plain_terminal is (chars name.now)))
             values.old self.old values.new next self.new) }
         ensures grows { Grows values.old values.new }
     {

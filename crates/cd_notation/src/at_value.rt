@@ -33,7 +33,7 @@ impl Reader {
         requires forms { HasForms values.old self.old }
         requires named { IsNamed is (chars name.now) }
         ensures leads { IfOk result (λ next.
-            Follows (λ frames. machine.at_value frames (plain_terminal is (chars name.now)))
+            Follows (λ trees. machine.at_value trees (plain_terminal is (chars name.now)))
             values.old self.old values.new next self.new) }
         ensures grows { Grows values.old values.new }
     {
@@ -53,7 +53,7 @@ impl Reader {
     fn number(&mut self, values: &mut Values, n: i128) -> Result<Option<Expecting>, AllocError>
         requires forms { HasForms values.old self.old }
         ensures leads { IfOk result (λ next.
-            Follows (λ frames. Some (put_of (Integer n) frames))
+            Follows (λ trees. Some (put_of (Integer n) trees))
             values.old self.old values.new next self.new) }
         ensures grows { Grows values.old values.new }
     {
@@ -68,7 +68,7 @@ impl Reader {
     ) -> Result<Option<Expecting>, AllocError>
         requires forms { HasForms values.old self.old }
         ensures leads { IfOk result (λ next.
-            Follows (λ frames. machine.at_value frames (Letters (chars name.now)))
+            Follows (λ trees. machine.at_value trees (Letters (chars name.now)))
             values.old self.old values.new next self.new) }
         ensures grows { Grows values.old values.new }
     {
@@ -82,7 +82,7 @@ impl Reader {
     fn text(&mut self, values: &mut Values, name: &str) -> Result<Option<Expecting>, AllocError>
         requires forms { HasForms values.old self.old }
         ensures leads { IfOk result (λ next.
-            Follows (λ frames. Some (put_of (characters_before (chars name.now) the_nil) frames))
+            Follows (λ trees. Some (put_of (characters_before (chars name.now) the_nil) trees))
             values.old self.old values.new next self.new) }
         ensures grows { Grows values.old values.new }
     {
@@ -95,7 +95,7 @@ impl Reader {
         requires forms { HasForms values.old self.old }
         requires label { IsLabel (chars name.now) }
         ensures leads { IfOk result (λ next.
-            Follows (λ frames. Some (put_of (AnAtom (chars name.now)) frames))
+            Follows (λ trees. Some (put_of (AnAtom (chars name.now)) trees))
             values.old self.old values.new next self.new) }
         ensures grows { Grows values.old values.new }
     {
@@ -105,7 +105,7 @@ impl Reader {
 
     fn open_tuple(&mut self) -> Result<Option<Expecting>, AllocError>
         ensures leads { IfOk result (λ next. (values : SomeValues)
-            → Follows (λ frames. Some (state PlainAtValue (InTuple [] ∷ frames)))
+            → Follows (λ trees. Some (state PlainAtValue (InTuple [] ∷ trees)))
             values self.old values next self.new) }
     {
         self.forms.push(OpenForm::Tuple(self.items.len()))?;
@@ -114,7 +114,7 @@ impl Reader {
 
     fn open_sequence(&mut self) -> Result<Option<Expecting>, AllocError>
         ensures leads { IfOk result (λ next. (values : SomeValues)
-            → Follows (λ frames. Some (state PlainAtItem (InSequence [] ∷ frames)))
+            → Follows (λ trees. Some (state PlainAtItem (InSequence [] ∷ trees)))
             values self.old values next self.new) }
     {
         self.forms.push(OpenForm::Sequence(self.items.len()))?;
@@ -123,7 +123,7 @@ impl Reader {
 
     fn open_record(&mut self) -> Result<Option<Expecting>, AllocError>
         ensures leads { IfOk result (λ next. (values : SomeValues)
-            → Follows (λ frames. Some (state PlainAtField (InRecord [] [] ∷ frames)))
+            → Follows (λ trees. Some (state PlainAtField (InRecord [] [] ∷ trees)))
             values self.old values next self.new) }
     {
         let first = self.labels.len();

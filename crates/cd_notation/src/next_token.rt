@@ -9,7 +9,7 @@ ghost use Rattle.cd_documents.specs.Machine.{State, step_on};
 ghost use Rattle.cd_documents.specs.Machine as machine;
 ghost use Rattle.cd_notation.specs.Inner.PlainTerminal.{plain_terminal, IsNamed};
 ghost use Rattle.cd_notation.specs.Inner.Leading.{IsOpenIn, HasForms, Follows, Stands};
-ghost use Rattle.cd_notation.specs.Inner.Leading.{IsStep, plain_place, frames_at};
+ghost use Rattle.cd_notation.specs.Inner.Leading.{IsStep, plain_expecting, trees_at};
 ghost use Rattle.cd_notation.specs.declared.reader.Reader.{Reader as AReader};
 
 use crate::form::Expecting;
@@ -48,9 +48,9 @@ impl Reader {
     }
 
     fn is_full(&self, expecting: Expecting) -> bool
-        ensures { (values : SomeValues) (frames : List machine.Frame)
-            → IsOpenIn values self.now frames
-            → result ≡ not (nat_lt (length (frames_at expecting frames)) most_open) }
+        ensures { (values : SomeValues) (trees : List machine.OpenTree)
+            → IsOpenIn values self.now trees
+            → result ≡ not (nat_lt (length (trees_at expecting trees)) most_open) }
     {
         match expecting {
             Expecting::Tag => self.forms.len() >= MOST_OPEN - 1,
@@ -68,8 +68,8 @@ impl Reader {
         requires forms { HasForms values.old self.old }
         requires named { IsNamed is (chars name.now) }
         ensures leads { IfOk result (λ next.
-            Follows (λ frames. machine.after_terminal (plain_place (table values.old) expecting)
-            (frames_at expecting frames) (plain_terminal is (chars name.now)))
+            Follows (λ trees. machine.after_terminal (plain_expecting (table values.old) expecting)
+            (trees_at expecting trees) (plain_terminal is (chars name.now)))
             values.old self.old values.new next self.new) }
         ensures grows { Grows values.old values.new }
     {
@@ -90,7 +90,7 @@ impl Reader {
 
 fn at_equal(is: Terminal) -> Result<Option<Expecting>, AllocError>
     ensures leads { IfOk result (λ next. (values : SomeValues) (reader : AReader)
-        → Follows (λ frames. machine.at_equal frames (plain_terminal is []))
+        → Follows (λ trees. machine.at_equal trees (plain_terminal is []))
         values reader values next reader) }
 {
     match is {

@@ -1,7 +1,7 @@
 ghost use Rattle.std.specs.Prelude.{◌≡◌, ◌<◌, [], List, length, IfOk, Some};
 ghost use Rattle.cd_model.specs.Thing.{Thing as AThing};
 ghost use Rattle.cd_cells.specs.Table.{table, IsAt, Grows};
-ghost use Rattle.cd_documents.specs.Machine.{Frame as AFrame, put as put_of};
+ghost use Rattle.cd_documents.specs.Machine.{OpenTree as AnOpenTree, put as put_of};
 ghost use Rattle.cd_notation.specs.Inner.Leading.{IsOpenIn, HasForms, Stands, after_value_in};
 
 use crate::form::{Expecting, OpenForm};
@@ -54,9 +54,9 @@ impl Reader {
     ) -> Result<Expecting, AllocError>
         requires within { value.0 < length (table values.old) }
         requires forms { HasForms values.old self.old }
-        ensures stands { IfOk result (λ next. (is : AThing) (frames : List AFrame)
-            → IsAt (table values.old) value.0 is → IsOpenIn values.old self.old frames
-            → Stands values.new next self.new (put_of is frames)) }
+        ensures stands { IfOk result (λ next. (is : AThing) (trees : List AnOpenTree)
+            → IsAt (table values.old) value.0 is → IsOpenIn values.old self.old trees
+            → Stands values.new next self.new (put_of is trees)) }
         ensures grows { Grows values.old values.new }
     {
         let mut value = value;

@@ -4,9 +4,9 @@ use Rattle.std.specs.Prelude.{Option, Some, None}
 use Rattle.std.specs.Prelude.{Result, Ok, Err}
 use Rattle.cd_syntax.specs.Name.{Name}
 use Rattle.cd_model.specs.Thing.{Thing, NoField, Record}
-use Rattle.cd_documents.specs.Machine.{Place, AtValue, AtItem, AfterPart, AtField, AfterField}
+use Rattle.cd_documents.specs.Machine.{AtValue, AtItem, AfterPart, AtField, AfterField}
 use Rattle.cd_documents.specs.Machine.{AtTag, AtAttribute, AfterAttribute, AtEqual, Done}
-use Rattle.cd_documents.specs.Machine.{Frame, InTag, State, state, letters_onto, with_fields}
+use Rattle.cd_documents.specs.Machine.{OpenTree, InTag, State, state, letters_onto, with_fields}
 use Rattle.cd_documents.specs.Machine as machine
 use Rattle.cd_cells.specs.declared.values.Values.{Values}
 use Rattle.cd_cells.specs.declared.cell.ValueId.{ValueId}
@@ -23,29 +23,29 @@ use Rattle.cd_notation.specs.declared.reader.Step.TheVariants as step
 use Rattle.cd_notation.specs.Inner.Open.{AreAt, HasItems, HasLabels, IsOpen}
 
 -- the forms that are open in a reader
-abbrev pub IsOpenIn : Values → Reader → List Frame → Type 0
-IsOpenIn values reader frames =
-    IsOpen (names values) (table values) reader.forms reader.items reader.labels frames
+abbrev pub IsOpenIn : Values → Reader → List OpenTree → Type 0
+IsOpenIn values reader trees =
+    IsOpen (names values) (table values) reader.forms reader.items reader.labels trees
 
 abbrev pub HasForms : Values → Reader → Type 0
-HasForms values reader = (frames : List Frame) × IsOpenIn values reader frames
+HasForms values reader = (trees : List OpenTree) × IsOpenIn values reader trees
 
-abbrev pub plain_place : List Thing → Expecting → Place
-plain_place table expecting.Value = AtValue
-plain_place table expecting.Item = AtItem
-plain_place table expecting.AfterPart = AfterPart
-plain_place table expecting.Field = AtField
-plain_place table expecting.AfterField = AfterField
-plain_place table expecting.Tag = AtTag
-plain_place table expecting.Attribute = AtAttribute
-plain_place table expecting.AfterAttribute = AfterAttribute
-plain_place table expecting.Equal = AtEqual
-plain_place table (expecting.Nothing id) = Done (thing_at table id.0)
+abbrev pub plain_expecting : List Thing → Expecting → machine.Expecting
+plain_expecting table expecting.Value = AtValue
+plain_expecting table expecting.Item = AtItem
+plain_expecting table expecting.AfterPart = AfterPart
+plain_expecting table expecting.Field = AtField
+plain_expecting table expecting.AfterField = AfterField
+plain_expecting table expecting.Tag = AtTag
+plain_expecting table expecting.Attribute = AtAttribute
+plain_expecting table expecting.AfterAttribute = AfterAttribute
+plain_expecting table expecting.Equal = AtEqual
+plain_expecting table (expecting.Nothing id) = Done (thing_at table id.0)
 
 -- a tag without a name is no form of a reader yet
-abbrev pub frames_at : Expecting → List Frame → List Frame
-frames_at expecting.Tag frames = InTag [] [] [] ∷ frames
-frames_at _ frames = frames
+abbrev pub trees_at : Expecting → List OpenTree → List OpenTree
+trees_at expecting.Tag trees = InTag [] [] [] ∷ trees
+trees_at _ trees = trees
 
 -- the value that was read is one of the table
 abbrev pub IsWithin : List Thing → Expecting → Type 0
@@ -55,9 +55,9 @@ IsWithin table _ = Unit {0}
 -- the state of the machine
 pub record Stands (values : Values) (next : Expecting) (reader : Reader) (now : State)
     : Type 0 where
-  pub frames : List Frame
-  pub forms : IsOpenIn values reader frames
-  pub is : now ≡ state (plain_place (table values) next) (frames_at next frames)
+  pub trees : List OpenTree
+  pub forms : IsOpenIn values reader trees
+  pub is : now ≡ state (plain_expecting (table values) next) (trees_at next trees)
   pub within : IsWithin (table values) next
 
 -- the reader goes on where the machine does
@@ -67,10 +67,10 @@ Leads None values None reader = Unit {0}
 Leads _ values _ reader = ⊥
 
 -- from the forms that were open
-abbrev pub Follows : (List Frame → Option State) → (old_values : Values) (old : Reader)
+abbrev pub Follows : (List OpenTree → Option State) → (old_values : Values) (old : Reader)
     → (values : Values) → Option Expecting → (new : Reader) → Type 0
-Follows go old_values old values next new = (frames : List Frame) → IsOpenIn old_values old frames
-    → Leads (go frames) values next new
+Follows go old_values old values next new = (trees : List OpenTree) → IsOpenIn old_values old trees
+    → Leads (go trees) values next new
 
 -- one step of the reader is one of the machine
 abbrev pub IsStep : (from : ℕ) → Result State machine.Fault → Values → Step → Reader → Type 0
@@ -118,16 +118,16 @@ pub record ClosesForms (values : Values) (reader : Reader) (from : ℕ) : Type 0
   pub below : List ValueId
   pub all : List Thing
   pub items : HasItems (table values) from reader.items below all
-  pub frames : List Frame
-  pub forms : IsOpen (names values) (table values) reader.forms below reader.labels frames
+  pub trees : List OpenTree
+  pub forms : IsOpen (names values) (table values) reader.forms below reader.labels trees
 
 -- its items are a value
 abbrev pub IsClosed : Values → Reader → (from end : ℕ) → Values → Option Expecting → Reader → Type 0
 IsClosed old_values old from end values next new = (below : List ValueId) (all : List Thing)
-    (last : Thing) (frames : List Frame) → HasItems (table old_values) from old.items below all
+    (last : Thing) (trees : List OpenTree) → HasItems (table old_values) from old.items below all
     → IsAt (table old_values) end last
-    → IsOpen (names old_values) (table old_values) old.forms below old.labels frames
-    → Leads (Some (machine.put (machine.pairs all last) frames)) values next new
+    → IsOpen (names old_values) (table old_values) old.forms below old.labels trees
+    → Leads (Some (machine.put (machine.pairs all last) trees)) values next new
 
 -- the labels and the items of a form begin at these numbers
 pub record HasFields (values : Values) (reader : Reader) (first from : ℕ) : Type 0 where

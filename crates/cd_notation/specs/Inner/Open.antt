@@ -3,7 +3,7 @@ use Rattle.std.specs.Prelude.{◌≡◌, ℕ, false, List, [], ◌∷◌, ◌++�
 use Rattle.cd_syntax.specs.Name.{Name, IsLabel}
 use Rattle.cd_model.specs.Thing.{Thing, Atom, Record, Fields}
 use Rattle.cd_documents.specs.Document.{is_among}
-use Rattle.cd_documents.specs.Machine.{Frame, InTuple, InSequence, InRecord, InTag, InContent}
+use Rattle.cd_documents.specs.Machine.{OpenTree, InTuple, InSequence, InRecord, InTag, InContent}
 use Rattle.cd_cells.specs.declared.cell.ValueId.{ValueId}
 use Rattle.cd_cells.specs.Cells.{name_at}
 use Rattle.cd_cells.specs.Table.{IsAt}
@@ -53,34 +53,34 @@ pub record HasLabels (names : List Name) (from : ℕ) (numbers below : List ℕ)
 
 -- the forms of a reader, with its items and its labels, the last one of each first
 pub data IsOpen (names : List Name) (table : List Thing)
-    : List OpenForm → List ValueId → List ℕ → List Frame → Type 0 where
+    : List OpenForm → List ValueId → List ℕ → List OpenTree → Type 0 where
   nothing : IsOpen names table [] [] [] []
   tuple : (from : ℕ) (forms : List OpenForm) (items below : List ValueId) (labels : List ℕ)
-      (values : List Thing) (frames : List Frame) → HasItems table from items below values
-      → IsOpen names table forms below labels frames
-      → IsOpen names table (form.Tuple from ∷ forms) items labels (InTuple values ∷ frames)
+      (values : List Thing) (trees : List OpenTree) → HasItems table from items below values
+      → IsOpen names table forms below labels trees
+      → IsOpen names table (form.Tuple from ∷ forms) items labels (InTuple values ∷ trees)
   sequence : (from : ℕ) (forms : List OpenForm) (items below : List ValueId) (labels : List ℕ)
-      (values : List Thing) (frames : List Frame) → HasItems table from items below values
-      → IsOpen names table forms below labels frames
-      → IsOpen names table (form.Sequence from ∷ forms) items labels (InSequence values ∷ frames)
+      (values : List Thing) (trees : List OpenTree) → HasItems table from items below values
+      → IsOpen names table forms below labels trees
+      → IsOpen names table (form.Sequence from ∷ forms) items labels (InSequence values ∷ trees)
   fields : (first from : ℕ) (forms : List OpenForm) (items below : List ValueId)
       (numbers below_numbers : List ℕ) (labels : List Name) (values : List Thing)
-      (frames : List Frame) → HasLabels names first numbers below_numbers labels
+      (trees : List OpenTree) → HasLabels names first numbers below_numbers labels
       → HasItems table from items below values
-      → IsOpen names table forms below below_numbers frames
+      → IsOpen names table forms below below_numbers trees
       → IsOpen names table (form.Record first from ∷ forms) items numbers
-      (InRecord labels values ∷ frames)
+      (InRecord labels values ∷ trees)
   tag : (tag : ValueId) (name : Name) (first from : ℕ) (forms : List OpenForm)
       (items below : List ValueId) (numbers below_numbers : List ℕ) (labels : List Name)
-      (values : List Thing) (frames : List Frame) → IsAt table tag.0 (Atom name)
+      (values : List Thing) (trees : List OpenTree) → IsAt table tag.0 (Atom name)
       → HasLabels names first numbers below_numbers labels
       → HasItems table from items below values
-      → IsOpen names table forms below below_numbers frames
+      → IsOpen names table forms below below_numbers trees
       → IsOpen names table (form.Tag tag first from ∷ forms) items numbers
-      (InTag name labels values ∷ frames)
+      (InTag name labels values ∷ trees)
   content : (tag attributes : ValueId) (name : Name) (all : Fields) (forms : List OpenForm)
-      (items : List ValueId) (numbers : List ℕ) (frames : List Frame)
+      (items : List ValueId) (numbers : List ℕ) (trees : List OpenTree)
       → IsAt table tag.0 (Atom name) → IsAt table attributes.0 (Record all)
-      → IsOpen names table forms items numbers frames
+      → IsOpen names table forms items numbers trees
       → IsOpen names table (form.Content tag attributes ∷ forms) items numbers
-      (InContent name all ∷ frames)
+      (InContent name all ∷ trees)

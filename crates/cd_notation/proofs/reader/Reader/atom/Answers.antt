@@ -5,4 +5,4 @@ pub put-requires-clause-forms : goal.put-requires-clause-forms
 put-requires-clause-forms c = (c.requires.forms.0, open_grown _ _ c.in_ok-id.ensures.grows _ _ _ _ c.requires.forms.1)
 
 pub returns-clause-leads : goal.returns-clause-leads
-returns-clause-leads c = λ frames are. c.in_ok-put.ensures.stands _ frames c.in_ok-id.ensures.is (open_grown _ _ c.in_ok-id.ensures.grows _ _ _ frames are)
+returns-clause-leads c = λ trees are. c.in_ok-put.ensures.stands _ trees c.in_ok-id.ensures.is (open_grown _ _ c.in_ok-id.ensures.grows _ _ _ trees are)

@@ -6,12 +6,12 @@ use Rattle.cd_notation.proofs.Closing.{ends_record}
 use Rattle.cd_notation.proofs.reader.Reader.close_record.Goals as goal
 
 pub returns-in_default-clause-leads : goal.returns-in_default-clause-leads
-returns-in_default-clause-leads c = λ frames are. lead_none _ _ _ (no_record _ _ _ _ _ frames are (λ first from rest is. absurd (no_head _ _ _ c.in_default.ensures is)))
+returns-in_default-clause-leads c = λ trees are. lead_none _ _ _ (no_record _ _ _ _ _ trees are (λ first from rest is. absurd (no_head _ _ _ c.in_default.ensures is)))
 
 pub returns-in_default-form : goal.returns-in_default-form
 returns-in_default-form c = record {
-  leads = λ frames are.
-      lead_none _ _ _ (no_record _ _ _ _ _ frames are (λ first from rest is. c.in_default-form.not-Record first from (head_is _ _ _ _ _ c.in-Some.ensures.1 is)));
+  leads = λ trees are.
+      lead_none _ _ _ (no_record _ _ _ _ _ trees are (λ first from rest is. c.in_default-form.not-Record first from (head_is _ _ _ _ _ c.in-Some.ensures.1 is)));
   grows = itself _;
 }
 
@@ -33,7 +33,7 @@ put-requires-clause-forms c =
     (top.rest, open_by _ _ _ _ _ _ _ _ _ rest got.items got.labels (open_grown _ _ c.in_ok-id.ensures.grows _ _ _ _ top.others))
 
 pub returns-clause-leads : goal.returns-clause-leads
-returns-clause-leads c = λ frames are.
+returns-clause-leads c = λ trees are.
     let top = over_top_record _ _ _ _ _ _ _ _ _ (c.in-Some.ensures.1 ∙ ap (λ one. one ∷ c.in-Some.ensures.0) c.in-Record.is) are in
     let got = c.in_ok-id.ensures.is _ _ _ _ top.named top.has in
     let rest = c.in_ok-id.ensures.forms ∙ c.drop_top.ensures _ _ c.in-Some.ensures.1 in

@@ -7,12 +7,12 @@ use Rattle.cd_notation.proofs.Closing.{can_close}
 use Rattle.cd_notation.proofs.reader.Reader.close_sequence.Goals as goal
 
 pub returns-in_default-clause-leads : goal.returns-in_default-clause-leads
-returns-in_default-clause-leads c = λ frames are. lead_none _ _ _ (no_sequence _ _ _ _ _ frames are (λ from rest is. absurd (no_head _ _ _ c.in_default.ensures is)) CloseSequence)
+returns-in_default-clause-leads c = λ trees are. lead_none _ _ _ (no_sequence _ _ _ _ _ trees are (λ from rest is. absurd (no_head _ _ _ c.in_default.ensures is)) CloseSequence)
 
 pub returns-in_default-form : goal.returns-in_default-form
 returns-in_default-form c = record {
-  leads = λ frames are.
-      lead_none _ _ _ (no_sequence _ _ _ _ _ frames are (λ from rest is. c.in_default-form.not-Sequence from (head_is _ _ _ _ _ c.in-Some.ensures.1 is)) CloseSequence);
+  leads = λ trees are.
+      lead_none _ _ _ (no_sequence _ _ _ _ _ trees are (λ from rest is. c.in_default-form.not-Sequence from (head_is _ _ _ _ _ c.in-Some.ensures.1 is)) CloseSequence);
   grows = itself _;
 }
 
@@ -22,7 +22,7 @@ close-requires-clause-forms c =
     can_close _ _ _ _ _ _ _ _ _ _ c.in_ok-nil.ensures.grows (c.drop_top.ensures _ _ c.in-Some.ensures.1) refl refl top.has top.others
 
 pub returns-clause-leads : goal.returns-clause-leads
-returns-clause-leads c = λ frames are.
+returns-clause-leads c = λ trees are.
     let top = over_top_sequence _ _ _ _ _ _ _ _ (c.in-Some.ensures.1 ∙ ap (λ one. one ∷ c.in-Some.ensures.0) c.in-Sequence.is) are in
     ends_sequence _ _ _ _ _ _ top.is
     (c.in_ok-close.ensures.leads _ _ _ _ (items_grown _ _ c.in_ok-nil.ensures.grows _ _ _ _ top.has) c.in_ok-nil.ensures.is

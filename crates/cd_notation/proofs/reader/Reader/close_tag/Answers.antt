@@ -7,12 +7,12 @@ use Rattle.cd_notation.proofs.Closing.{ends_tag}
 use Rattle.cd_notation.proofs.reader.Reader.close_tag.Goals as goal
 
 pub returns-in_default-clause-leads : goal.returns-in_default-clause-leads
-returns-in_default-clause-leads c = λ frames are. lead_none _ _ _ (no_tag _ _ _ _ _ frames are (λ tag first from rest is. absurd (no_head _ _ _ c.in_default.ensures is)))
+returns-in_default-clause-leads c = λ trees are. lead_none _ _ _ (no_tag _ _ _ _ _ trees are (λ tag first from rest is. absurd (no_head _ _ _ c.in_default.ensures is)))
 
 pub returns-in_default-form : goal.returns-in_default-form
 returns-in_default-form c = record {
-  leads = λ frames are.
-      lead_none _ _ _ (no_tag _ _ _ _ _ frames are (λ tag first from rest is. c.in_default-form.not-Tag tag first from (head_is _ _ _ _ _ c.in-Some.ensures.1 is)));
+  leads = λ trees are.
+      lead_none _ _ _ (no_tag _ _ _ _ _ trees are (λ tag first from rest is. c.in_default-form.not-Tag tag first from (head_is _ _ _ _ _ c.in-Some.ensures.1 is)));
   grows = itself _;
 }
 
@@ -22,7 +22,7 @@ take_record-requires c =
     record { below_numbers = top.below_numbers; below = top.below; named = top.labels; all = top.values; labels = top.named; items = top.has }
 
 pub returns-clause-leads : goal.returns-clause-leads
-returns-clause-leads c = λ frames are.
+returns-clause-leads c = λ trees are.
     let top = over_top_tag _ _ _ _ _ _ _ _ _ _ (c.in-Some.ensures.1 ∙ ap (λ one. one ∷ c.in-Some.ensures.0) c.in-Tag.is) are in
     let got = c.in_ok-id.ensures.is _ _ _ _ top.named top.has in
     let rest = c.in_ok-id.ensures.forms ∙ c.drop_top.ensures _ _ c.in-Some.ensures.1 in

@@ -10,7 +10,7 @@ pub put-requires-clause-forms : goal.put-requires-clause-forms
 put-requires-clause-forms c = (c.requires.forms.0, open_grown _ _ c.in_ok-id.ensures.grows _ _ _ _ c.requires.forms.1)
 
 pub returns-clause-leads : goal.returns-clause-leads
-returns-clause-leads c = λ frames are.
+returns-clause-leads c = λ trees are.
     let sized : SFits w128 c.args.n = search rules in
     let at = simp to_z-of_z at (last_at _ _ _ _ c.in_ok-id.ensures.added c.in_ok-id.ensures.number) in
-    c.in_ok-put.ensures.stands (Integer c.args.n) frames at (open_grown _ _ c.in_ok-id.ensures.grows _ _ _ frames are)
+    c.in_ok-put.ensures.stands (Integer c.args.n) trees at (open_grown _ _ c.in_ok-id.ensures.grows _ _ _ trees are)

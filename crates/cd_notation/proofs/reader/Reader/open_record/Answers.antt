@@ -5,6 +5,6 @@ use Rattle.cd_notation.proofs.reader.Reader.open_record.Goals as goal
 
 pub returns : goal.returns
 returns c = record {
-  leads = λ values frames are.
-      stands_by _ _ _ _ _ _ _ c.in_ok-push.ensures.added refl refl (opened_record values _ _ _ frames are _ _ c.len-first.ensures c.len.ensures);
+  leads = λ values trees are.
+      stands_by _ _ _ _ _ _ _ c.in_ok-push.ensures.added refl refl (opened_record values _ _ _ trees are _ _ c.len-first.ensures c.len.ensures);
 }

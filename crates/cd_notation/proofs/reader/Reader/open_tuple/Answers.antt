@@ -5,5 +5,5 @@ use Rattle.cd_notation.proofs.reader.Reader.open_tuple.Goals as goal
 
 pub returns : goal.returns
 returns c = record {
-  leads = λ values frames are. stands_by _ _ _ _ _ _ _ c.in_ok-push.ensures.added refl refl (opened_tuple values _ _ _ frames are _ c.len.ensures);
+  leads = λ values trees are. stands_by _ _ _ _ _ _ _ c.in_ok-push.ensures.added refl refl (opened_tuple values _ _ _ trees are _ c.len.ensures);
 }

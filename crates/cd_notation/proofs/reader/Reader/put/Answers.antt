@@ -6,14 +6,14 @@ pub loop-form-init : goal.loop-form-init
 loop-form-init c = putting_starts _ _ _
 
 pub returns-in_default-clause-stands : goal.returns-in_default-clause-stands
-returns-in_default-clause-stands c = λ is frames at are.
-    stands_by _ _ _ _ _ _ _ refl refl refl (puts_whole _ _ _ _ _ _ c.in_default.ensures (c.loop-form.invariant.going is frames at are))
+returns-in_default-clause-stands c = λ is trees at are.
+    stands_by _ _ _ _ _ _ _ refl refl refl (puts_whole _ _ _ _ _ _ c.in_default.ensures (c.loop-form.invariant.going is trees at are))
 
 pub returns-in_default-form : goal.returns-in_default-form
 returns-in_default-form c = record {
-  stands = λ is frames at are.
+  stands = λ is trees at are.
       stands_in _ _ c.loop-form.self _ _ _ c.loop-form.value _ c.in-Some.ensures.1 c.in_default-form.not-Content refl c.in_ok-push.ensures.added refl c.after.ensures
-      (c.loop-form.invariant.going is frames at are);
+      (c.loop-form.invariant.going is trees at are);
   grows = c.loop-form.invariant.grows;
 }
 

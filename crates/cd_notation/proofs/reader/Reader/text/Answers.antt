@@ -14,6 +14,6 @@ put-requires-clause-forms c =
     (c.requires.forms.0, open_grown _ _ (further _ _ _ c.in_ok-nil.ensures.grows c.in_ok-id.ensures.grows) _ _ _ _ c.requires.forms.1)
 
 pub returns-clause-leads : goal.returns-clause-leads
-returns-clause-leads c = λ frames are.
-    c.in_ok-put.ensures.stands _ frames (c.in_ok-id.ensures.pairs the_nil c.in_ok-nil.ensures.is)
-    (open_grown _ _ (further _ _ _ c.in_ok-nil.ensures.grows c.in_ok-id.ensures.grows) _ _ _ frames are)
+returns-clause-leads c = λ trees are.
+    c.in_ok-put.ensures.stands _ trees (c.in_ok-id.ensures.pairs the_nil c.in_ok-nil.ensures.is)
+    (open_grown _ _ (further _ _ _ c.in_ok-nil.ensures.grows c.in_ok-id.ensures.grows) _ _ _ trees are)
