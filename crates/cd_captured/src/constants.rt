@@ -4,9 +4,9 @@ ghost use Rattle.cd_syntax.specs.Name.{IsLabel};
 ghost use Rattle.cd_sets.specs.Atoms.{listing};
 ghost use Rattle.cd_model.specs.BuiltIns.{atoms_of};
 ghost use Rattle.cd_model.specs.Formula.{Ints, Atoms};
+ghost use Rattle.cd_model.specs.Leaves.{one_character};
 ghost use Rattle.cd_graph.specs.PlainFormula.{plain};
 ghost use Rattle.cd_matching.specs.PlainKernel.{plain_node, plain_nodes};
-ghost use Rattle.cd_captured.specs.Inner.Made.{character as the_character};
 ghost use Rattle.cd_captured.specs.Inner.Plan.{text_of, text_in};
 
 use cd_graph::Formula;
@@ -27,7 +27,7 @@ pub(crate) fn integer(alloc: Global, n: i128) -> Result<Formula, AllocError>
 
 /// This character alone.
 pub(crate) fn character(alloc: Global, c: char) -> Result<Formula, AllocError>
-    ensures { IfOk result (λ is. plain is ≡ the_character c) }
+    ensures { IfOk result (λ is. plain is ≡ one_character c) }
 {
     Ok(Formula::chars(CharSet::interval(alloc, c, c)?))
 }

@@ -1,4 +1,4 @@
--- Messages that tell an answer.
+-- Messages that give an answer.
 use Rattle.std.proofs.Common.{◌≡◌, Result, Ok, Err}
 use Rattle.std.specs.Prelude.{IfOk, String, string_bytes}
 use Rattle.std.specs.Global.{Global}

@@ -30,7 +30,7 @@ answers_program file text program reads (Ok message) answers =
     λ disk has. on_program text program (record { has = has; reads = reads }) (reply_of message) answers
 answers_program file text program reads (Err error) answers = tt
 
--- no naming fault is told of its declarations
+-- no naming fault is reported of its declarations
 pub names_sound : (text : Bytes) (program : Program) → ReadsAsProgram text program → (text_fault : TextFault) → RefusesNames program.types text_fault → ⊥
 names_sound text program reads _ (naming fault reported) = reads.sound fault (in_types fault reported.is)
 

@@ -262,7 +262,7 @@ module _ (disk : Disk) (file document text : Bytes) (known : IsKnown disk file) 
       document_one disk document document_known type r s answers
       (subst (λ type. DocumentAnswer disk document type s) same answers')
 
--- an outcome is told in one way
+-- an outcome is reported in one way
 reported_once : (outcome : Outcome) (r s : Reply) → Reports outcome r → Reports outcome s → r.status ≡ s.status
 reported_once _ _ _ (done v) (done _) = refl
 reported_once _ _ _ (raised v) (raised _) = refl

@@ -37,7 +37,7 @@ use Rattle.cd_driver.specs.Causes.{IsCause, Cause}
 use Rattle.cd_driver.specs.Reasons.{ParseAsTexts, alone, with_file, HasTextFault, in_file, in_first, in_second, Reason}
 use Rattle.cd_driver.specs.Reasons.{NamesFile, AskRun, HasEnded, in_declarations, in_type, in_document, in_program, in_run}
 
--- a file that is marked is the latest whose read failed
+-- a file that is unreadable is the latest whose read failed
 read_failed : (before after : FilesState) (disk : Disk) (name : Bytes) → Encountered before after disk → disk.unreadable ≡ Some name
     → Rose before.faults after.faults × (after.last ≡ Some name)
 read_failed before after _ name (all_read same) is = absurd cc

@@ -28,7 +28,7 @@ abbrev pub Answer : List Bytes → Disk → Reply → Type 0
 Answer words disk reply = (AreNoCommand words × (reply ≡ usage))
     ⊎ ((command : Command) × ParseAs words command × AnswerOf command disk reply)
 
--- the file can't be read, or is told
+-- the file can't be read, or is known
 abbrev pub IsKnown : Disk → Bytes → Type 0
 IsKnown disk file = (disk.unreadable ≡ Some file)
     ⊎ ((bytes : Bytes) × (disk.known file ≡ Some bytes))

@@ -1,4 +1,4 @@
--- When each status comes, whatever the files and sinks do and tell.
+-- When each status comes, whatever the files and sinks do.
 use Rattle.std.specs.Prelude.{◌≡◌, ◌≢◌, List, [], ◌⊎◌}
 use Rattle.cd_base.specs.declared.status.Status.{Status}
 use Rattle.cd_base.specs.declared.status.Status.TheVariants.{WriteFault, NoMemory}
@@ -9,7 +9,7 @@ use Rattle.cd_driver.specs.Outside.{Outside}
 use Rattle.cd_replies.specs.Disk.{Disk, Encountered}
 use Rattle.cd_driver.specs.Answer.{Answer}
 
--- an answer to the words has this status, for the files that were met
+-- an answer to the words has this status, for the files that were encountered
 abbrev pub IsCause : List Bytes → Outside → Outside → Status → Type 0
 IsCause words before after status = (disk : Disk) × Encountered before.files after.files disk
     × (reply : Reply) × Answer words disk reply × (reply.status ≡ status)

@@ -36,7 +36,7 @@ pub data Ending (words : List Bytes) (disk : Disk) (before after : Outside) : St
   no_memory : after.out ≡ before.out → after.err ≡ before.err
       → Ending words disk before after NoMemory
 
--- whatever faults came, the call ended in one of these ways, for the files that it met
+-- whatever faults came, the call ended in one of these ways, for the files that it encountered
 pub record Completes (words : List Bytes) (before after : Outside) (status : Status) : Type 0 where
   pub disk : Disk
   pub encountered : Encountered before.files after.files disk

@@ -16,7 +16,7 @@ pub record NothingFailed (before after : Outside) : Type 0 where
   pub out : Rose before.out.faults after.out.faults → ⊥
   pub err : Rose before.err.faults after.err.faults → ⊥
 
--- the files as they are told, none of them marked
+-- the files as they are known, none of them unreadable
 abbrev pub known_files : Outside → Disk
 known_files before = record { known = before.files.known; unreadable = None }
 

@@ -43,7 +43,7 @@ pub data ParseAsTexts (words : List Bytes) (disk : Disk) : Declarations → (tex
       → (declared : Declarations) → Declares text declared
       → ParseAsTexts words disk declared text1 text2
 
--- the words ask whether the first type is within the second, for the files that were met
+-- the words ask whether the first type is within the second, for the files that were encountered
 pub record Ask (words : List Bytes) (before after : Outside) (first second : Written) : Type 0 where
   pub disk : Disk
   pub encountered : Encountered before.files after.files disk
@@ -71,7 +71,7 @@ pub record IsNo (words : List Bytes) (before after : Outside) : Type 0 where
   pub inside : IsIn element first
   pub outside : IsOutside element second
 
--- the words ask whether the value is in the type, for the files that were met
+-- the words ask whether the value is in the type, for the files that were encountered
 pub record AskMember (words : List Bytes) (before after : Outside) (v : Thing)
     (type : Written) : Type 0 where
   pub disk : Disk
@@ -206,7 +206,7 @@ pub record IsIllTyped (words : List Bytes) (before after : Outside) : Type 0 whe
   pub ask : AskProgram words before after command program
   pub untyped : IsTyped program → ⊥
 
--- the words ask for a run with so many units, for the files that were met
+-- the words ask for a run with so many units, for the files that were encountered
 pub record AskRun (words : List Bytes) (before after : Outside) (disk : Disk) (units : ℕ)
     (file document : Bytes) : Type 0 where
   pub encountered : Encountered before.files after.files disk

@@ -14,8 +14,8 @@ ghost use Rattle.cd_driver.specs.Causes.{Cause};
 ghost use Rattle.cd_driver.specs.Reasons.{Reason};
 
 /// The words and the files decide the status of an answer, where each file that the words' command
-/// reads can't be read, or is told. So each status comes exactly where its rule holds, want of memory
-/// and faults of writing aside.
+/// reads can't be read, or is known. So each status comes exactly where its rule holds, want of
+/// memory and faults of writing aside.
 pub fn status_is_decided()
     ensures { (words : List Bytes) (disk : Disk) → FileIsKnown words disk → (first second : Reply)
         → Answer words disk first → Answer words disk second

@@ -44,13 +44,13 @@ pub fn cduce<F: Files, S: Sink>(
         (outside (F.state files.old) (S.state out.old) (S.state err.old))
         (outside (F.state files.new) (S.state out.new) (S.state err.new)) result }
 
-    // Each status has its cause, whatever the files and sinks tell.
+    // Each status has its cause, whatever the files and sinks do.
     ensures cause { Cause (texts words.now)
         (outside (F.state files.old) (S.state out.old) (S.state err.old))
         (outside (F.state files.new) (S.state out.new) (S.state err.new)) result }
 
-    // What is told of files stays. What is known of files stays as it was; or a fault was counted
-    // at a file that the words' command reads, which is the last at which one came.
+    // What is known of files stays as it was; and a fault was counted only at a file that the
+    // words' command reads, which is the last at which one came.
     ensures known { (F.state files.new).known ≡ (F.state files.old).known }
     ensures files { ReadsFilesOf (texts words.now) (F.state files.old) (F.state files.new) }
 {

@@ -1,4 +1,4 @@
--- What is told of a document, by its text and its value.
+-- What is reported of a document, by its text and its value.
 use Rattle.std.proofs.Common.{◌≡◌, Bool, true, false, Result}
 use Rattle.std.specs.Prelude.{IfOk, if◌then◌else◌, codes}
 use Rattle.std.specs.Str.{chars}

@@ -17,7 +17,7 @@ use cd_syntax::type_tree::Declarations;
 use std::alloc::{AllocError, Global};
 
 /// Puts nodes of the declared names into a graph and gives these names, or the naming fault that is
-/// told of the declarations.
+/// reported of the declarations.
 pub(crate) fn declare<'t>(
     alloc: Global,
     graph: &mut Graph,

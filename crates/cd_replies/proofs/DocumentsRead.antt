@@ -1,4 +1,4 @@
--- What the text of a document stands for, and what is told of it.
+-- What the text of a document stands for, and what is reported of it.
 use Rattle.std.proofs.Common.{◌≡◌, true, ℕ, List, [], ◌∷◌, Ok, sym, subst}
 use Rattle.std.specs.Char.{IsScalar}
 use Rattle.std.specs.Str.{chars, IsUtf8}

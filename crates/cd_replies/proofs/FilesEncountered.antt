@@ -1,4 +1,4 @@
--- The files that were met by a read.
+-- The files that were encountered by a read.
 use Rattle.std.proofs.Common.{◌≡◌, Ok, Err, refl, sym, ap, subst}
 use Rattle.std.specs.Prelude.{String, string_bytes}
 use Rattle.std.specs.Global.{Global}
@@ -32,7 +32,7 @@ has_text_beside old new name other text differ is = record {
   encoded = is.3;
 }
 
--- what is said of a file that has no text, with the files that were met
+-- what is said of a file that has no text, with the files that were encountered
 pub data FaultMet (refuses : Bytes → TextFault → Type 0) (old new : FilesState) (name : Bytes) : Reply → Type 0 where
   failed : FailsToRead old new name → FileRefusal refuses (unreadable_disk old name) name (cannot_read name)
       → FaultMet refuses old new name (cannot_read name)

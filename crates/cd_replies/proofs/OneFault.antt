@@ -5,7 +5,7 @@ use Rattle.std.proofs.lemmas.List.{take-append-drop}
 use Rattle.cd_syntax.specs.declared.tokens.Token.{Token}
 use Rattle.cd_syntax.specs.SyntaxFaults.{Form, IsForm, BeginNone, place_of, IsWrong, IsTooDeep, IsSyntaxFault, at_token, at_end, IsDepthFault, at_depth}
 
--- a shorter front is a front of a longer one
+-- a shorter prefix is a prefix of a longer one
 front : (j i : ℕ) (tokens : List Token) → j ≤ i → (rest : List Token) × (take i tokens ≡ take j tokens ++ rest)
 front zero i tokens within = (take i tokens, refl)
 front (suc j) zero tokens within = absurd (omega arith)
@@ -15,7 +15,7 @@ front (suc j) (suc i) (one ∷ tokens) within =
     (on.0, ap (λ rest. one ∷ rest) on.1)
 
 module _ (form : Form) (law : IsForm form) (most : ℕ) (tokens : List Token) (end : ℕ) where
-  -- what begins with a front begins with each shorter one
+  -- what begins with a prefix begins with each shorter one
   shorter : (depth i j : ℕ) → j ≤ i → form.Begins depth (take i tokens) → form.Begins depth (take j tokens)
   shorter depth i j within begins =
       let here = front j i tokens within in

@@ -1,4 +1,4 @@
--- At most one thing stands against a text, but for the name that is told of a naming fault, and none against a text that reads.
+-- At most one thing stands against a text, but for the name that is reported of a naming fault, and none against a text that reads.
 use Rattle.std.proofs.Common.{◌≡◌, ℕ, List, length, refl, sym, ap, subst, ◌∙◌}
 use Rattle.std.specs.Str.{chars}
 use Rattle.cd_syntax.specs.declared.tokens.Token.{Token}
@@ -31,7 +31,7 @@ one_status origin text _ _ (both_naming a b) = refl
 
 module _ (form : Form) (law : IsForm form) (reported : List Token → Fault → Type 0)
     (writes : (tokens : List Token) (fault : Fault) → reported tokens fault → form.Writes 1000 tokens) (text : Bytes) where
-  -- the text is spelled by the same tokens
+  -- the text lexes to the same tokens
   same_tokens : (first second : List Token) → HasTokens text first → HasTokens text second → second ≡ first
   same_tokens first second spelled other = one_list (chars text) second first other spelled
 
@@ -77,7 +77,7 @@ module _ (form : Form) (law : IsForm form) (reported : List Token → Fault → 
   one_refusal _ _ (naming a_ts a_spelled a_fault a_reported) (naming b_ts b_spelled b_fault b_reported) =
       both_naming a_fault b_fault
 
-  -- nothing stands against tokens that are of the form, where no naming fault is told of what they write
+  -- nothing stands against tokens that are of the form, where no naming fault is reported of what they write
   stands_not : (tokens : List Token) → HasTokens text tokens → form.Writes 1000 tokens → ((fault : Fault) → reported tokens fault → ⊥)
       → (text_fault : TextFault) → Refuses form reported text text_fault → ⊥
   stands_not tokens spelled written sound _ (lexical f fails) = spelled_or_not (chars text) tokens f spelled fails

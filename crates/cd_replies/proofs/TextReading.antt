@@ -32,7 +32,7 @@ module _ (form : Form) (reported : List Token → Fault → Type 0) (text : Byte
       subst (λ f. Refuses form reported text (text_fault f)) (sym same) (too_deep tokens spelled place is)
   fault_refused tokens spelled fault.Memory is found means = absurd (false≢true means)
 
-  -- and so does the naming fault that is told of what they write
+  -- and so does the naming fault that is reported of what they write
   pub names_refused : (tokens : List Token) → HasTokens text tokens → (IsSuch : Fault → Type 0)
       → ((fault : Fault) → IsReported IsSuch fault → reported tokens fault) → (error : NameError) → IsReportedError IsSuch error
       → (found : Refusal) → IsOfNames error (Ok found) → Refuses form reported text (text_fault found)
@@ -42,7 +42,7 @@ module _ (form : Form) (reported : List Token → Fault → Type 0) (text : Byte
       (naming tokens spelled (record { fault = fault; name = name; at = at }) (held (record { fault = fault; name = name; at = at }) is))
   names_refused tokens spelled IsSuch held name_fault.Memory is found means = absurd (false≢true means)
 
--- the naming fault that is told of declarations is what is found
+-- the naming fault that is reported of declarations is what is found
 pub names_reported : (declared : Declarations) (error : NameError) → IsReportedError (IsFaultOfDeclarations declared) error
     → (found : Refusal) → IsOfNames error (Ok found) → RefusesNames declared (text_fault found)
 names_reported declared (name_fault.Fault fault name at) is found means =
@@ -64,7 +64,7 @@ pub writes_refused : (text : Bytes) (declared : Declarations) → Writes text de
 writes_refused text declared writes _ (names.naming fault reported) =
     naming writes.tokens writes.spelled fault (declared, writes.written, reported)
 
--- where nothing is declared, no naming fault is told
+-- where nothing is declared, no naming fault is reported
 pub none_refused : (text_fault : TextFault) → RefusesNames NoDeclaration text_fault → ⊥
 none_refused _ (names.naming fault reported) = no_fault fault reported.is
   where

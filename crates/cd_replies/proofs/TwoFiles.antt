@@ -119,7 +119,7 @@ module _ (refuses : Bytes → TextFault → Type 0) (answers : (file : Bytes) �
       whole old new types (refl, read.1, read.2, read.3) r
       (subst (λ files. Finishes (λ disk reply. HasText disk file (string_bytes types) → Answers disk reply) files new document r) read.0 finishes)
 
--- what is told of files stays
+-- what is known of files stays
 pub stays_known : (answers : Disk → Reply → Type 0) (old new : FilesState) (document : Bytes) (r : Result Message AllocError)
     → Finishes answers old new document r → new.known ≡ old.known
 stays_known answers old new document r (granted same is) = ap (λ files. files.known) same

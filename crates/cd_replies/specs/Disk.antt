@@ -1,4 +1,4 @@
--- The files that a call meets, and what is said of one that has no text.
+-- The files that a call encounters, and what is said of one that has no text.
 use Rattle.std.specs.Prelude.{◌≡◌, ℕ, ◌<◌, ◌≤◌, Option, Some, None, IfSome, length}
 use Rattle.std.specs.Str.{IsUtf8}
 use Rattle.std.specs.Str.Lossy.{utf8_valid_len}
@@ -8,20 +8,20 @@ use Rattle.cd_replies.specs.Bytes.{Bytes}
 use Rattle.cd_replies.specs.Reply.{Reply, cannot_read, too_large, not_utf8, refusal}
 use Rattle.cd_replies.specs.Texts.{TextFault}
 
--- the files that a call meets: the bytes of each name that are told, and the one name, if there is
--- one, that can't be read
+-- the files that a call encounters: the bytes of each name that are known, and the one name, if
+-- there is one, that can't be read
 pub record Disk : Type 0 where
   pub known : Bytes → Option Bytes
   pub unreadable : Option Bytes
 
--- the files as they are told, without a marked name and with this one
+-- the files as they are known, without an unreadable name and with this one
 abbrev pub known_disk : FilesState → Disk
 known_disk files = record { known = files.known; unreadable = None }
 
 abbrev pub unreadable_disk : FilesState → Bytes → Disk
 unreadable_disk files name = record { known = files.known; unreadable = Some name }
 
--- the file can be read and has these bytes, as far as it is told
+-- the file can be read and has these bytes, as far as it is known
 pub record Has (disk : Disk) (name bytes : Bytes) : Type 0 where
   pub read : disk.unreadable ≡ Some name → ⊥
   pub known : IfSome (disk.known name) (λ all. all ≡ bytes)
@@ -36,12 +36,12 @@ pub record HasText (disk : Disk) (name text : Bytes) : Type 0 where
   pub size : length text ≤ LARGEST
   pub encoded : IsUtf8 text
 
--- the files that a call met, by what is known of them before and after it
+-- the files that a call encountered, by what is known of them before and after it
 pub data Encountered (before after : FilesState) : Disk → Type 0 where
-  -- where the count of faults is as it was, no name is marked
+  -- where the count of faults is as it was, no name is unreadable
   all_read : after.faults ≡ before.faults
       → Encountered before after (known_disk before)
-  -- where it rose, the name of the latest read that failed is marked
+  -- where it rose, the name of the latest read that failed is unreadable
   unreadable : (name : Bytes) → Rose before.faults after.faults → after.last ≡ Some name
       → Encountered before after (unreadable_disk before name)
 
@@ -51,7 +51,7 @@ pub data FileRefusal (refuses : Bytes → TextFault → Type 0) (disk : Disk) (n
   unread : disk.unreadable ≡ Some name → FileRefusal refuses disk name (cannot_read name)
   large : (bytes : Bytes) → Has disk name bytes → LARGEST < length bytes
       → FileRefusal refuses disk name (too_large name)
-  -- the byte that is told is the length of the longest front that is UTF-8
+  -- the byte that is reported is the length of the longest prefix that is UTF-8
   encoding : (bytes : Bytes) → Has disk name bytes → length bytes ≤ LARGEST → (IsUtf8 bytes → ⊥)
       → FileRefusal refuses disk name (not_utf8 name (utf8_valid_len bytes))
   refused : (text : Bytes) → HasText disk name text → (text_fault : TextFault)

@@ -13,7 +13,7 @@ use Rattle.cd_replies.specs.Disk.{LARGEST}
 use Rattle.cd_replies.specs.declared.file.FileFault.{FileFault}
 use Rattle.cd_replies.specs.declared.file.FileFault.TheVariants.{Unread, TooLarge, NotUtf8}
 
--- the file has these bytes, as far as it is told
+-- the file has these bytes, as far as it is known
 abbrev pub HasBytes : FilesState → (name bytes : Bytes) → Type 0
 HasBytes files name bytes = IfSome (files.known name) (λ all. all ≡ bytes)
 

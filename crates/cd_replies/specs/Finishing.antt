@@ -9,7 +9,7 @@ use Rattle.cd_replies.specs.Reply.{Reply, cannot_read}
 use Rattle.cd_replies.specs.declared.message.Message.{Message}
 
 -- no read failed, or that of the document did, which is then said; and the message is such an
--- answer for the files that were met
+-- answer for the files that were encountered
 pub data Finishes (answers : Disk → Reply → Type 0) (old new : FilesState) (document : Bytes)
     (result : Result Message AllocError) : Type 0 where
   granted : new ≡ old → IfOk result (λ message. answers (known_disk old) (reply_of message))

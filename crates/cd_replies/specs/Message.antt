@@ -26,7 +26,7 @@ text_fault (refusal.Syntax place) = Syntax place
 text_fault (refusal.TooDeep place) = TooDeep place
 text_fault (refusal.Naming fault name at) = Naming (record { fault = fault; name = name; at = at })
 
--- the message is such an answer for files that were met
+-- the message is such an answer for files that were encountered
 abbrev pub IsAnswer : (Disk → Reply → Type 0) → (old new : FilesState) → Result Message AllocError
     → Type 0
 IsAnswer answers old new result = (disk : Disk) × Encountered old new disk

@@ -22,7 +22,7 @@ pub record Writes (text : Bytes) (declared : Declarations) : Type 0 where
 abbrev pub AreNamedWell : Declarations → Type 0
 AreNamedWell declared = (fault : Fault) → IsFaultOfDeclarations declared fault → ⊥
 
--- the naming fault that is told of the declarations stands against them
+-- the naming fault that is reported of the declarations stands against them
 pub data RefusesNames (declared : Declarations) : TextFault → Type 0 where
   naming : (fault : Fault) → IsReported (IsFaultOfDeclarations declared) fault
       → RefusesNames declared (Naming fault)

@@ -16,7 +16,7 @@ use Rattle.cd_resolve.specs.Faults.{Fault, IsFaultOfType, IsFaultOfDeclarations,
 use Rattle.cd_names.specs.ProgramFaults.{IsFaultOfProgram}
 use Rattle.cd_replies.specs.Bytes.{Bytes}
 
--- the text is spelled by these tokens
+-- the text lexes to these tokens
 abbrev pub HasTokens : Bytes → List Token → Type 0
 HasTokens text tokens = Lexes false 0 (chars text) tokens
 
@@ -49,7 +49,7 @@ pub record ReadsAsProgram (text : Bytes) (program : Program) : Type 0 where
   pub sound : (fault : Fault) → IsFaultOfProgram program fault → ⊥
 
 -- what stands against a text, whose tokens are to be of a form: its first lexical fault, the place
--- of its fault of syntax, or that of a form too deep, or the naming fault that is told of it
+-- of its fault of syntax, or that of a form too deep, or the naming fault that is reported of it
 pub data TextFault : Type 0 where
   Lexical : LexError → TextFault
   Syntax : (place : ℕ) → TextFault
@@ -57,7 +57,7 @@ pub data TextFault : Type 0 where
   Naming : Fault → TextFault
 
 -- it stands against the text; `reported` says of tokens that are of the form which naming fault is
--- told
+-- reported
 -- of what they write
 pub data Refuses (form : Form) (reported : List Token → Fault → Type 0) (text : Bytes) : TextFault
     → Type 0 where
@@ -72,7 +72,7 @@ pub data Refuses (form : Form) (reported : List Token → Fault → Type 0) (tex
   naming : (tokens : List Token) → HasTokens text tokens → (fault : Fault) → reported tokens fault
       → Refuses form reported text (Naming fault)
 
--- the fault is told of the type that the tokens write, of the declarations, and of the program,
+-- the fault is reported of the type that the tokens write, of the declarations, and of the program,
 -- whose text ends there
 abbrev pub IsReportedOfType : Declarations → List Token → Fault → Type 0
 IsReportedOfType declared tokens fault = (is : Tree) × IsTree 1000 tokens is

@@ -15,7 +15,7 @@ pub enum FileFault {
     Unread,
     /// It has more bytes than a file may have.
     TooLarge,
-    /// It is not UTF-8; its longest front that is has this many bytes.
+    /// It is not UTF-8; its longest prefix that is has this many bytes.
     NotUtf8(usize),
 }
 

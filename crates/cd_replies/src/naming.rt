@@ -16,7 +16,7 @@ use cd_syntax::type_tree::Declarations;
 use std::alloc::{AllocError, Global};
 
 /// Puts nodes of the declared names into a world and gives these names, or the naming fault that is
-/// told of the declarations.
+/// reported of the declarations.
 ///
 /// # Errors
 ///

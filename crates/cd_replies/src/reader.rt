@@ -82,7 +82,7 @@ pub fn read_program(alloc: Global, text: &str) -> Result<Result<Program, Refusal
 }
 
 /// Nodes for type declarations, which see one another and no others, or the naming fault that is
-/// told of them. Where the formulas are put after those of a graph of `first` nodes that begins
+/// reported of them. Where the formulas are put after those of a graph of `first` nodes that begins
 /// with the built-in ones, the node of each name stands for its type.
 ///
 /// # Errors

@@ -12,7 +12,7 @@ pub enum Refusal {
     Syntax(usize),
     /// A place that is too deep.
     TooDeep(usize),
-    /// The naming fault that is told of it.
+    /// The naming fault that is reported of it.
     Naming {
         /// What is wrong.
         fault: NameFault,

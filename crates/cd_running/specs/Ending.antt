@@ -11,7 +11,7 @@ use Rattle.cd_replies.specs.Reply.{Reply}
 abbrev pub text_of : Thing → Bytes
 text_of v = encode_utf8_all (canonical v)
 
--- the reply tells the outcome; none tells that a run is stuck
+-- the reply reports the outcome; none reports that a run is stuck
 pub data Reports : Outcome → Reply → Type 0 where
   done : (v : Thing) → Reports (Done v) (reply.printed (text_of v))
   raised : (v : Thing) → Reports (Raised v) (reply.uncaught (text_of v))

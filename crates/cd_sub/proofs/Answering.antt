@@ -1,4 +1,4 @@
--- Messages that tell an answer.
+-- Messages that give an answer.
 use Rattle.std.proofs.Common.{◌≡◌, Result, Ok, Err}
 use Rattle.std.specs.Prelude.{IfOk, String, string_bytes, true, false}
 use Rattle.std.specs.Global.{Global}
@@ -21,7 +21,7 @@ use Rattle.cd_replies.specs.File.{IsFileRead, said_of}
 use Rattle.cd_replies.specs.declared.file.FileFault.{FileFault}
 use Rattle.cd_replies.specs.declared.message.Message.{Message}
 
--- what is told of two nodes, which stand for what texts read as, is the answer
+-- what is reported of two nodes, which stand for what texts read as, is the answer
 pub compared : (graph : Graph) (declared : Declarations) (text1 text2 : Bytes) (first second : NodeId) → StandsForText graph first declared text1
     → StandsForText graph second declared text2 → (r : Result Message AllocError)
     → IfOk r (λ message. ComparesNodes graph first second (reply_of message))

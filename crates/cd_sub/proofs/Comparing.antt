@@ -1,4 +1,4 @@
--- What is told of two nodes, and that a node stands for what a text reads as in each longer graph.
+-- What is reported of two nodes, and that a node stands for what a text reads as in each longer graph.
 use Rattle.std.proofs.Common.{List, ◌++◌}
 use Rattle.std.specs.Prelude.{[], ◌∷◌, codes, encode_utf8_all}
 use Rattle.cd_base.specs.declared.status.Status.TheVariants.{No}

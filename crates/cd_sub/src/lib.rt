@@ -92,7 +92,7 @@ fn with_file(
 }
 
 // Whether the first type text is within the second, where they see these declarations, or the
-// naming fault that is told of the declarations.
+// naming fault that is reported of the declarations.
 fn sub_with(
     alloc: Global,
     declared: &Declarations,

@@ -5,7 +5,7 @@ use Rattle.cd_replies.specs.Disk.{LARGEST}
 use Rattle.cd_replies.specs.Bytes.{Bytes}
 
 -- the one file holds the text of the first version, and then that of the second, where these are
--- told
+-- reported
 pub record HoldsBoth (known : Bytes → Option Bytes) (files : List (Bytes × Bytes)) : Type 0 where
   pub first : Bytes
   pub second : Bytes

@@ -18,7 +18,7 @@ fn main(rt: HostRuntime) -> Result<()> {
     let alloc = rt.alloc();
     let mut files = RealFiles::new(alloc, rt);
     let mut out = RealSink::output(rt.stdout());
-    // What is told on errors belongs to the tour too.
+    // What is put to errors belongs to the tour too.
     let mut err = RealSink::output(rt.stdout());
     show_all(alloc, &QUERIES, &mut files, &mut out, &mut err)?;
     let mut versions = both_versions(alloc, &mut files)?;

@@ -49,7 +49,7 @@ fn show<F: Files, S: Sink>(
     Ok(())
 }
 
-// Puts the answer to these words, whole, and tells its status.
+// Puts the answer to these words, whole, and gives its status.
 fn answered<F: Files, S: Sink>(
     alloc: Global,
     words: &[&str],

@@ -1,4 +1,4 @@
--- What stands for a type does so in each longer graph; and a type with no naming fault has none to tell.
+-- What stands for a type does so in each longer graph; and a type with no naming fault has none to report.
 use Rattle.std.proofs.Common.{◌≡◌, ℕ, ◌++◌, sym, subst}
 use Rattle.cd_syntax.specs.Name.{Name}
 use Rattle.cd_syntax.specs.TypeTree.{Tree, Declarations, NoDeclaration}

@@ -1,4 +1,4 @@
--- A text that is put together from blanks, words, signs and numbers spells the tokens of these: what stands where is
+-- A text that is put together from blanks, words, signs and numbers lexes to the tokens of these: what stands where is
 -- a test that computes.
 use Rattle.std.proofs.Common.{◌≡◌, ℕ, ◌+◌, Bool, true, false, not, ◌&&◌, ◌||◌, List, [], ◌∷◌, ◌++◌, length, Option, Some, None, refl, sym, subst, bytes_eq, true≢false, arith}
 use Rattle.std.specs.Prelude.{nat_le, pos, ◌≤◌, ◌≢◌}
@@ -33,7 +33,7 @@ written (AWord name) = name
 written (AMark is) = characters is
 written (Digits digits) = digits
 
--- the text of pieces, and the tokens that it spells from a byte on
+-- the text of pieces, and the tokens that it lexes to from a byte on
 abbrev pub text_of : List Piece → List ℕ
 text_of [] = []
 text_of (piece ∷ rest) = written piece ++ text_of rest
@@ -156,7 +156,7 @@ digits_right joined (c ∷ cs) text are ends small =
     let fits = le-leb (decimal_value (c ∷ cs)) 170141183460469231731687303715884105727 small in
     rw (are.0, ends, fits) refl
 
--- the text of pieces spells their tokens
+-- the text of pieces lexes to their tokens
 pub spelled : (joined : Bool) (at : ℕ) (pieces : List Piece) → are_right joined pieces ≡ true
     → Lexes joined at (text_of pieces) (tokens_of at pieces)
 spelled joined at [] right = nothing joined at

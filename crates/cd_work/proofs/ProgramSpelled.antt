@@ -1,4 +1,4 @@
--- The text of the workload's program spells its tokens.
+-- The text of the workload's program lexes to its tokens.
 use Rattle.std.proofs.Common.{◌≡◌, refl, subst, true, false, List, [], ◌∷◌, ◌++◌}
 use Rattle.std.specs.Prelude.{codes}
 use Rattle.std.specs.Str.{chars}

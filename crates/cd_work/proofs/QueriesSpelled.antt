@@ -1,4 +1,4 @@
--- The text of a query spells its tokens.
+-- The text of a query lexes to its tokens.
 use Rattle.std.proofs.Common.{◌≡◌, ◌∙◌, refl, sym, ap, ap₂, subst, ℕ, ◌+◌, ◌<◌, ◌^◌, true≢false, true, false, List, [], ◌∷◌, ◌++◌, length, append_assoc, Some, arith}
 use Rattle.std.specs.Prelude.{codes, ◌&&◌, if◌then◌else◌}
 use Rattle.std.specs.Char.{is_ascii_digit}

@@ -14,6 +14,6 @@ returns-in-None c =
     (ProgramAnswer c.args.file.now c.args.text.now (plain_program c.args.program.now)) c.accepted.ensures
     (accepted (rw c.in-None.is at c.in_ok-no_types.ensures))
 
--- or a rule is told
+-- or a rule is reported
 pub returns-in-Some : goal.returns-in-Some
 returns-in-Some c = ill_typed (reply_of c.in-Some.message) (rw c.in-Some.is at c.in_ok-no_types.ensures)

@@ -12,7 +12,7 @@ use Rattle.cd_running.proofs.SafeRuns.{not_stuck}
 use Rattle.cd_running.proofs.of_value.Goals as goal
 
 -- no run on a value that is taken is stuck
-pub reported-requires-clause-goes : goal.known-requires-clause-goes
+pub reported-requires-clause-goes : goal.reported-requires-clause-goes
 reported-requires-clause-goes c =
     let program = plain_program c.args.program.now in
     let found = c.typed_programs_have_main.ensures program c.requires.typed.typed c.requires.typed.sound c.requires.typed.functions in
@@ -30,7 +30,7 @@ returns-in-None c =
     replies c.not_input.result (not_input c.args.document.now) (OnValue program c.args.units c.args.document.now v) c.not_input.ensures
     (refused_answered program found.0 found.1 v c.args.units c.args.document.now (outside found.0 found.1))
 
--- or what a run comes to is told
+-- or what a run comes to is reported
 pub returns-in-Some : goal.returns-in-Some
 returns-in-Some c =
     let program = plain_program c.args.program.now in
@@ -38,5 +38,5 @@ returns-in-Some c =
     let found = c.typed_programs_have_main.ensures program c.requires.typed.typed c.requires.typed.sound c.requires.typed.functions in
     let result = plain_ran (table c.run_on.new.values) c.in-Some.ran in
     let runs = rw c.in-Some.is at c.in_ok-run_on.ensures.runs in
-    IfOk-weaker c.known.result _ _ (λ message reports.
-    run_answered program found.0 found.1 v c.args.units c.args.document.now result (runs found.0 found.1) (reply_of message) reports) c.known.ensures
+    IfOk-weaker c.reported.result _ _ (λ message reports.
+    run_answered program found.0 found.1 v c.args.units c.args.document.now result (runs found.0 found.1) (reply_of message) reports) c.reported.ensures

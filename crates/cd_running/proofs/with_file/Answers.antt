@@ -27,7 +27,7 @@ returns-in-None g c =
     _ _ c.args.document.now c.with_types.result
     (λ disk reply answers has. answers file (record { text = text; has = record { has = has; reads = reads }; typed = typed })) c.with_types.ensures
 
--- or a rule of typing is told
+-- or a rule of typing is reported
 pub returns : goal.returns
 returns g c =
     let file = c.args.file.now in

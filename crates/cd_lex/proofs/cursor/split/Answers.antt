@@ -13,7 +13,7 @@ split_at-requires c =
 
 pub returns-clause-prefix : goal.returns-clause-prefix
 returns-clause-prefix c =
-    ap chars (c.split_at.ensures.prefix ∙ ap (λ n. take n c.args.text.now) (c.length.ensures
+    ap chars (c.split_at.ensures.front ∙ ap (λ n. take n c.args.text.now) (c.length.ensures
     ∙ ap (prefix_len (belongs c.args.run)) c.as_bytes.ensures.value))
     ∙ run_chars (belongs c.args.run) (beyond c.args.run c.requires) c.args.text.now c.utf8.text
 
