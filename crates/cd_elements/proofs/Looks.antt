@@ -36,7 +36,7 @@ pairs_written table (pair ∷ pairs) =
     pair_first argument text rest (Some id) =
         ap (λ one. one ∷ pair_texts rest) (append_assoc (canonical argument) (codes " => ") (text_in table id))
 
--- a part of a row that is no sequence is written as the element that it is
+-- a part of a spine that is no sequence is written as the element that it is
 atom_part : (name : Name) → part_text (atom_printed name).part ≡ (atom_printed name).text
 atom_part name = either (bytes_eq name (codes "nil"))
   where

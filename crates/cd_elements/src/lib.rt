@@ -5,10 +5,10 @@ pub mod elements;
 mod look;
 pub mod output;
 pub mod quote;
-mod row;
 mod rows;
 mod sequence;
 pub mod shape;
+mod spine;
 mod task;
 mod text;
 

@@ -1,6 +1,6 @@
 //! The canonical text of an element. A stack of tasks has what is left to be written.
 ghost use Rattle.std.specs.Prelude.{◌≡◌, ◌<◌, ◌++◌, length, map, OnOk, IfOk};
-ghost use Rattle.cd_model.specs.Canonical.{canonical, printed, atom_printed, row_text};
+ghost use Rattle.cd_model.specs.Canonical.{canonical, printed, atom_printed, spine_text};
 ghost use Rattle.cd_model.specs.Canonical.{sequence_text, pieces_of};
 ghost use Rattle.cd_model.specs.Thing.{Xml as AnXml, Record as ARecord, Function as AFunction};
 ghost use Rattle.cd_elements.specs.Table.{element_at, fields_of, pairs_of};
@@ -12,10 +12,10 @@ use crate::elements::Elements;
 use crate::look::{fields_at, is_nil, tag_at};
 use crate::output::Output;
 use crate::quote::{push_character, push_escaped, push_quoted};
-use crate::row::{letters, row_of};
 use crate::rows::{push_fields, push_function, push_record, push_tuple};
 use crate::sequence::push_sequence;
 use crate::shape::{ElementId, Shape};
+use crate::spine::{letters, spine_of};
 use crate::task::{Mark, Task, Tasks};
 use cd_syntax::name::Name;
 use std::alloc::AllocError;
@@ -71,7 +71,7 @@ fn write_element<'a>(
         Some(Shape::Int(n)) => output.push_number(*n),
         Some(Shape::Char(c)) => push_character(output, *c),
         Some(Shape::Atom(name)) => write_atom(name, output),
-        Some(Shape::Pair(_, _)) => write_row(elements, id, tasks, output),
+        Some(Shape::Pair(_, _)) => write_spine(elements, id, tasks, output),
         Some(Shape::Xml(tag, attributes, content)) => {
             write_xml(elements, *tag, *attributes, *content, tasks, output)
         }
@@ -94,25 +94,25 @@ fn write_atom(name: &Name, output: &mut Output) -> Result<(), AllocError>
 }
 
 // Writes the beginning of pairs, and then the rest is left.
-fn write_row(
+fn write_spine(
     elements: &Elements,
     id: ElementId,
     tasks: &mut Tasks<'_>,
     output: &mut Output,
 ) -> Result<(), AllocError>
-    requires { 0 < length (printed (element_at (table elements.now) id)).row.parts }
+    requires { 0 < length (printed (element_at (table elements.now) id)).spine.parts }
     ensures { let all = table elements.now in
-        let row = (printed (element_at all id)).row in
+        let spine = (printed (element_at all id)).spine in
         OnOk result
-        (Writes all (row_text row.parts row.end) output.old tasks.old output.new tasks.new) }
+        (Writes all (spine_text spine.parts spine.end) output.old tasks.old output.new tasks.new) }
 {
-    let row = row_of(elements, id)?;
-    match row.end {
+    let spine = spine_of(elements, id)?;
+    match spine.end {
         Some(end) => {
-            push_tuple(row.firsts.as_slice(), end, tasks)?;
+            push_tuple(spine.firsts.as_slice(), end, tasks)?;
             output.push('(')
         }
-        None => write_sequence(elements, row.firsts.as_slice(), tasks, output),
+        None => write_sequence(elements, spine.firsts.as_slice(), tasks, output),
     }
 }
 

@@ -5,7 +5,7 @@ use Rattle.std.proofs.lemmas.List.{map-append}
 use Rattle.cd_syntax.specs.declared.tokens.Token.{Token}
 use Rattle.cd_lr.specs.Grammar.{Whole, AreFree}
 use Rattle.cd_lr.specs.Goals.{ArePlain}
-use Rattle.cd_lr.proofs.Freed.{Each, none, more, joined, Alike, Freer, freed, deep}
+use Rattle.cd_lr.proofs.Freed.{Pairwise, none, more, joined, Alike, Freer, freed, deep}
 use Rattle.cd_lr.proofs.GoalsFirst.{goal_first}
 use Rattle.cd_grammar.specs.declared.goal.Goal.{Goal}
 use Rattle.cd_grammar.specs.declared.goal.Goal.TheVariants as goal
@@ -14,13 +14,13 @@ use Rattle.cd_grammar.specs.Language.{Entry, To, Read, Later, Placed, kind_of, v
 use Rattle.cd_grammar.proofs.Fits.{goals_do}
 
 -- entries that are related to themselves, and tokens whose entries are related
-themselves : (Is : Entry → Entry → Type 0) → ((e : Entry) → Is e e) → (es : List Entry) → Each Is es es
+themselves : (Is : Entry → Entry → Type 0) → ((e : Entry) → Is e e) → (es : List Entry) → Pairwise Is es es
 themselves Is itself [] = none
 themselves Is itself (e ∷ es) = more e e es es (itself e) (themselves Is itself es)
 
 each_token : (Is : Entry → Entry → Type 0) (first second : Token → Entry)
     → ((one : Token) → Is (first one) (second one)) → (tokens : List Token)
-    → Each Is (map first tokens) (map second tokens)
+    → Pairwise Is (map first tokens) (map second tokens)
 each_token Is first second are [] = none
 each_token Is first second are (one ∷ tokens) =
     more (first one) (second one) (map first tokens) (map second tokens) (are one)
@@ -33,11 +33,11 @@ alike e = record { kind = refl; value = refl }
 freer : (e : Entry) → Freer cduce_grammar e e
 freer e = record { alike = alike e; free = λ is. is }
 
-may_come : (tokens : List Token) → Each (Freer cduce_grammar) (map Read tokens) (map Later tokens)
+may_come : (tokens : List Token) → Pairwise (Freer cduce_grammar) (map Read tokens) (map Later tokens)
 may_come = each_token (Freer cduce_grammar) Read Later
     (λ one. record { alike = record { kind = refl; value = refl }; free = λ is. refl })
 
-came : (tokens : List Token) → Each (Alike cduce_grammar) (map Later tokens) (map Read tokens)
+came : (tokens : List Token) → Pairwise (Alike cduce_grammar) (map Later tokens) (map Read tokens)
 came = each_token (Alike cduce_grammar) Later Read (λ one. record { kind = refl; value = refl })
 
 -- what begins with tokens begins with fewer of them
@@ -52,7 +52,7 @@ shorter goal depth tokens later (rest, part, whole) = (
 )
   where
     AreFreer : List Entry → List Entry → Type 0
-    AreFreer = Each (Freer cduce_grammar)
+    AreFreer = Pairwise (Freer cduce_grammar)
 
     parts : AreFreer (map Read tokens ++ (map Read later ++ map Later rest))
         (map Read tokens ++ (map Later later ++ map Later rest))

@@ -1,5 +1,6 @@
 -- What is made of one part of its sort is of its own sort, and the facts hold of it.
 use Rattle.std.proofs.Common.{◌≡◌, sym, subst, ℕ, Bool, true, List, [], ◌∷◌, map, Option, Some, None}
+use Rattle.std.specs.List.{AllByRecursion as AllOf}
 use Rattle.cd_syntax.specs.declared.tokens.Span.{Span}
 use Rattle.cd_syntax.specs.declared.builtin.BuiltinName.{BuiltinName}
 use Rattle.cd_syntax.specs.declared.constant.Constant.{Constant}
@@ -15,7 +16,7 @@ use Rattle.cd_grammar.specs.Actions.{name_in, characters_in, constant_of, type_o
 use Rattle.cd_grammar.specs.Makes.{made_of_one}
 use Rattle.cd_grammar.proofs.Sorts.{Sort, OfConstant, OfExpr}
 use Rattle.cd_grammar.proofs.SortsOfMakes.{of_one}
-use Rattle.cd_grammar.proofs.SortedParts.{Facts, AreKept, Each, OfValue, Fits, one_tree, some_trees, some_signs}
+use Rattle.cd_grammar.proofs.SortedParts.{Facts, AreKept, OfValue, Fits, one_tree, some_trees, some_signs}
 use Rattle.cd_grammar.proofs.SortedParts.{some_fields, some_names, one_regular, some_regulars, one_file, one_mark}
 use Rattle.cd_grammar.proofs.SortedParts.{one_constant, one_expr, some_exprs, one_chain, some_items, some_expr_fields}
 use Rattle.cd_grammar.proofs.SortedParts.{one_function, one_program, one_token, one_literal, one_character, one_atom}
@@ -34,11 +35,11 @@ module _ (facts : Facts) (kept : AreKept facts) where
   pub item_fits : (p : Bool) (is : Tree) → T p is → R p (item_of is)
   item_fits p (tree span kind) so = (trees_kept p).item span (tree span kind) so
 
-  pub items_fit : (p : Bool) (all : List Tree) → Each (T p) all → Each (R p) (map item_of all)
+  pub items_fit : (p : Bool) (all : List Tree) → AllOf (T p) all → AllOf (R p) (map item_of all)
   items_fit p [] are = tt
   items_fit p (first ∷ rest) are = (item_fits p first are.0, items_fit p rest are.1)
 
-  each_letter : (p : Bool) (here : Span) (all : List ℕ) → Each (R p) (map (letter here) all)
+  each_letter : (p : Bool) (here : Span) (all : List ℕ) → AllOf (R p) (map (letter here) all)
   each_letter p here [] = tt
   each_letter p here (c ∷ rest) =
       ((trees_kept p).item here _ ((trees_kept p).chars here c c), each_letter p here rest)

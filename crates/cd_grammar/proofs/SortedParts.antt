@@ -1,5 +1,6 @@
 -- Facts of trees, expressions and functions which their constructors keep, and parts of a sort of which they hold.
 use Rattle.std.proofs.Common.{◌≡◌, refl, ℕ, ℤ, Bool, true, false, List, [], ◌∷◌, ◌++◌, Option, Some, None}
+use Rattle.std.specs.List.{AllByRecursion as AllOf}
 use Rattle.cd_syntax.specs.declared.tokens.Span.{Span}
 use Rattle.cd_syntax.specs.declared.tokens.Token.{Token}
 use Rattle.cd_syntax.specs.declared.tokens.TokenKind.TheVariants as token
@@ -24,13 +25,8 @@ use Rattle.cd_grammar.proofs.Sorts.{OfMark, OfToken, OfLiteral, OfCharacter, OfA
 use Rattle.cd_grammar.proofs.Sorts.{OfExpr, OfExprs, OfChain, OfItems, OfExprFields, OfBranches, OfSignatures}
 use Rattle.cd_grammar.proofs.Sorts.{OfFunction, OfProgram}
 
--- a fact of each in a list
-abbrev pub Each : {A : Type 0} → (A → Type 0) → List A → Type 0
-Each fact [] = Unit {0}
-Each fact (first ∷ rest) = fact first × Each fact rest
-
-pub joined : {A : Type 0} (fact : A → Type 0) (all more : List A) → Each fact all → Each fact more
-    → Each fact (all ++ more)
+pub joined : {A : Type 0} (fact : A → Type 0) (all more : List A) → AllOf fact all → AllOf fact more
+    → AllOf fact (all ++ more)
 joined fact [] more are so = so
 joined fact (first ∷ rest) more are so = (are.0, joined fact rest more are.1 so)
 
@@ -88,26 +84,26 @@ module _ (facts : Facts) where
     pub chars : (here : Span) (low high : ℕ) → T p (tree here (trees.Chars low high))
     pub letters : (here : Span) (characters : List ℕ) → T p (tree here (trees.Text characters))
     pub atom : (here : Span) (name : Name) → L name → T p (tree here (trees.Atom name))
-    pub tuple : (here : Span) (first second : Tree) (rest : List Tree) → Each (T p) (first ∷ second ∷ rest)
+    pub tuple : (here : Span) (first second : Tree) (rest : List Tree) → AllOf (T p) (first ∷ second ∷ rest)
         → T p (tree here (trees.Tuple (trees.trees_of (first ∷ second ∷ rest))))
-    pub arrows : (here : Span) (first second : Tree) (rest : List Tree) → Each (T p) (first ∷ second ∷ rest)
+    pub arrows : (here : Span) (first second : Tree) (rest : List Tree) → AllOf (T p) (first ∷ second ∷ rest)
         → T p (tree here (trees.Arrows (trees.trees_of (first ∷ second ∷ rest))))
-    pub union : (here : Span) (first second : Tree) (rest : List Tree) → Each (T p) (first ∷ second ∷ rest)
+    pub union : (here : Span) (first second : Tree) (rest : List Tree) → AllOf (T p) (first ∷ second ∷ rest)
         → T p (tree here (trees.Union (trees.trees_of (first ∷ second ∷ rest))))
-    pub meet : (here : Span) (first : Tree) (rest : List Signed) → T p first → Each (OfSign (T p)) rest
+    pub meet : (here : Span) (first : Tree) (rest : List Signed) → T p first → AllOf (OfSign (T p)) rest
         → T p (tree here (trees.Meet first (trees.signs_of rest)))
     pub sequence : (here : Span) (is : Regular) → R p is → T p (tree here (trees.Sequence is))
-    pub fields : (here : Span) (all : List Field) (more : Bool) → Each (OfField (T p) L) all
+    pub fields : (here : Span) (all : List Field) (more : Bool) → AllOf (OfField (T p) L) all
         → T p (tree here (trees.Record (trees.fields_of all) more))
     pub xml : (here : Span) (tag attributes content : Tree) → T p tag → T p attributes → T p content
         → T p (tree here (trees.Xml tag attributes content))
-    pub where_names : (here : Span) (is : Tree) (all : List Declaration) → T p is → Each (OfName (T p)) all
+    pub where_names : (here : Span) (is : Tree) (all : List Declaration) → T p is → AllOf (OfName (T p)) all
         → T p (tree here (trees.Where is (trees.declarations_of all)))
     pub nothing : (here : Span) → R p (regular here trees.Nothing)
     pub item : (here : Span) (is : Tree) → T p is → R p (regular here (trees.Item is))
-    pub in_turn : (here : Span) (all : List Regular) → Each (R p) all
+    pub in_turn : (here : Span) (all : List Regular) → AllOf (R p) all
         → R p (regular here (trees.Seq (trees.regulars_of all)))
-    pub alternatives : (here : Span) (all : List Regular) → Each (R p) all
+    pub alternatives : (here : Span) (all : List Regular) → AllOf (R p) all
         → R p (regular here (trees.Alt (trees.regulars_of all)))
     pub repeated : (here : Span) (is : Regular) (mark : Post) → R p is → R p (regular here (trees.Repeat is mark))
 
@@ -121,75 +117,75 @@ module _ (facts : Facts) where
   pub record ExprsAreKept : Type 0 where
     pub constant : (here : Span) (is : Constant) → OfValue L is → E (expr here (exprs.Constant is))
     pub variable : (here : Span) (name : Name) → L name → E (expr here (exprs.Variable name))
-    pub tuple : (here : Span) (first second : Expr) (rest : List Expr) → Each E (first ∷ second ∷ rest)
+    pub tuple : (here : Span) (first second : Expr) (rest : List Expr) → AllOf E (first ∷ second ∷ rest)
         → E (expr here (exprs.Tuple (exprs.exprs_of (first ∷ second ∷ rest))))
-    pub apply : (here : Span) (first second : Expr) (rest : List Expr) → Each E (first ∷ second ∷ rest)
+    pub apply : (here : Span) (first second : Expr) (rest : List Expr) → AllOf E (first ∷ second ∷ rest)
         → E (expr here (exprs.Apply (exprs.exprs_of (first ∷ second ∷ rest))))
-    pub sequence : (here : Span) (all : List Item) → Each (OfItem E) all
+    pub sequence : (here : Span) (all : List Item) → AllOf (OfItem E) all
         → E (expr here (exprs.Sequence (exprs.items_of all)))
-    pub fields : (here : Span) (all : List exprs.Field) → Each (OfExprField E L) all
+    pub fields : (here : Span) (all : List exprs.Field) → AllOf (OfExprField E L) all
         → E (expr here (exprs.Record (exprs.fields_of all)))
     pub xml : (here : Span) (tag attributes content : Expr) → E tag → E attributes → E content
         → E (expr here (exprs.Xml tag attributes content))
     pub chain : (here : Span) (first : Expr) (next : Tail) (rest : List Tail) → E first
-        → Each (OfTail E L) (next ∷ rest) → E (expr here (exprs.Chain first (exprs.tails_of (next ∷ rest))))
+        → AllOf (OfTail E L) (next ∷ rest) → E (expr here (exprs.Chain first (exprs.tails_of (next ∷ rest))))
     pub call : (word : BuiltIn) (here : Span) (is : Expr) → E is → E (expr here (exprs.Call word is))
     pub matching : (form : Form) (here : Span) (value : Expr) (first : Branch) (rest : List Branch) → E value
-        → Each (OfBranch (T true) E) (first ∷ rest)
+        → AllOf (OfBranch (T true) E) (first ∷ rest)
         → E (expr here (of_form form value (exprs.branches_of (first ∷ rest))))
     pub let_in : (here : Span) (pattern : Tree) (value rest : Expr) → T true pattern → E value → E rest
         → E (expr here (exprs.Let pattern value rest))
     pub if_else : (here : Span) (condition one other : Expr) → E condition → E one → E other
         → E (expr here (exprs.If condition one other))
     pub unnamed : (here : Span) (word : ℕ) (arrow : Signature) (arrows : List Signature) (first : Branch)
-        (rest : List Branch) → Each (OfSignature (T false)) (arrow ∷ arrows) → Each (OfBranch (T true) E) (first ∷ rest)
+        (rest : List Branch) → AllOf (OfSignature (T false)) (arrow ∷ arrows) → AllOf (OfBranch (T true) E) (first ∷ rest)
         → E (expr here (exprs.Function (function word None word (arrow ∷ arrows) (exprs.branches_of (first ∷ rest)))))
     pub named : (here : Span) (word : ℕ) (name : Name) (name_at : ℕ) (arrow : Signature) (arrows : List Signature)
-        (first : Branch) (rest : List Branch) → L name → Each (OfSignature (T false)) (arrow ∷ arrows)
-        → Each (OfBranch (T true) E) (first ∷ rest)
+        (first : Branch) (rest : List Branch) → L name → AllOf (OfSignature (T false)) (arrow ∷ arrows)
+        → AllOf (OfBranch (T true) E) (first ∷ rest)
         → E (expr here (exprs.Function
         (function word (Some name) name_at (arrow ∷ arrows) (exprs.branches_of (first ∷ rest)))))
     pub declared : (word : ℕ) (name : Name) (name_at : ℕ) (arrow : Signature) (arrows : List Signature)
-        (first : Branch) (rest : List Branch) → L name → Each (OfSignature (T false)) (arrow ∷ arrows)
-        → Each (OfBranch (T true) E) (first ∷ rest)
+        (first : Branch) (rest : List Branch) → L name → AllOf (OfSignature (T false)) (arrow ∷ arrows)
+        → AllOf (OfBranch (T true) E) (first ∷ rest)
         → F (function word (Some name) name_at (arrow ∷ arrows) (exprs.branches_of (first ∷ rest)))
 
   pub record AreKept : Type 0 where
     pub trees_kept : (p : Bool) → TreesAreKept p
     pub patterns_kept : PatternsAreKept
     pub exprs_kept : ExprsAreKept
-    pub file : (all : List Declaration) → Each (OfName (T false)) all → D (trees.declarations_of all)
+    pub file : (all : List Declaration) → AllOf (OfName (T false)) all → D (trees.declarations_of all)
 
   -- a part is of a sort, and the facts hold of what is in it; rows have two members at least, and chains an operator
   pub data Fits : Sort → Part → Type 0 where
     one_tree : {p : Bool} (is : Tree) → T p is → Fits (OfTree p) (ATree is)
-    some_trees : {p : Bool} (first second : Tree) (rest : List Tree) → Each (T p) (first ∷ second ∷ rest)
+    some_trees : {p : Bool} (first second : Tree) (rest : List Tree) → AllOf (T p) (first ∷ second ∷ rest)
         → Fits (OfTrees p) (Trees (first ∷ second ∷ rest))
-    some_signs : {p : Bool} (first : Tree) (rest : List Signed) → T p first → Each (OfSign (T p)) rest
+    some_signs : {p : Bool} (first : Tree) (rest : List Signed) → T p first → AllOf (OfSign (T p)) rest
         → Fits (OfSigns p) (Signs first rest)
-    some_fields : {p : Bool} (all : List Field) (more : Bool) → Each (OfField (T p) L) all
+    some_fields : {p : Bool} (all : List Field) (more : Bool) → AllOf (OfField (T p) L) all
         → Fits (OfFields p) (SomeFields all more)
-    some_names : {p : Bool} (all : List Declaration) → Each (OfName (T p)) all → Fits (OfNames p) (Names all)
+    some_names : {p : Bool} (all : List Declaration) → AllOf (OfName (T p)) all → Fits (OfNames p) (Names all)
     one_regular : {p : Bool} (is : Regular) → R p is → Fits (OfRegular p) (ARegular is)
-    some_regulars : {p : Bool} (first second : Regular) (rest : List Regular) → Each (R p) (first ∷ second ∷ rest)
+    some_regulars : {p : Bool} (first second : Regular) (rest : List Regular) → AllOf (R p) (first ∷ second ∷ rest)
         → Fits (OfRegulars p) (Regulars (first ∷ second ∷ rest))
     one_file : (is : Declarations) → D is → Fits OfFile (AFile is)
     one_mark : (is : Post) → Fits OfMark (AMark is)
     one_constant : (is : Constant) → OfValue L is → Fits OfConstant (AConstant is)
     one_expr : (is : Expr) → E is → Fits OfExpr (AnExpr is)
-    some_exprs : (first second : Expr) (rest : List Expr) → Each E (first ∷ second ∷ rest)
+    some_exprs : (first second : Expr) (rest : List Expr) → AllOf E (first ∷ second ∷ rest)
         → Fits OfExprs (Exprs (first ∷ second ∷ rest))
-    one_chain : (first : Expr) (next : Tail) (rest : List Tail) → E first → Each (OfTail E L) (next ∷ rest)
+    one_chain : (first : Expr) (next : Tail) (rest : List Tail) → E first → AllOf (OfTail E L) (next ∷ rest)
         → Fits OfChain (AChain first (next ∷ rest))
-    some_items : (all : List Item) → Each (OfItem E) all → Fits OfItems (Items all)
-    some_expr_fields : (all : List exprs.Field) → Each (OfExprField E L) all → Fits OfExprFields (ExprFields all)
-    some_branches : (first : Branch) (rest : List Branch) → Each (OfBranch (T true) E) (first ∷ rest)
+    some_items : (all : List Item) → AllOf (OfItem E) all → Fits OfItems (Items all)
+    some_expr_fields : (all : List exprs.Field) → AllOf (OfExprField E L) all → Fits OfExprFields (ExprFields all)
+    some_branches : (first : Branch) (rest : List Branch) → AllOf (OfBranch (T true) E) (first ∷ rest)
         → Fits OfBranches (Branches (first ∷ rest))
-    some_signatures : (first : Signature) (rest : List Signature) → Each (OfSignature (T false)) (first ∷ rest)
+    some_signatures : (first : Signature) (rest : List Signature) → AllOf (OfSignature (T false)) (first ∷ rest)
         → Fits OfSignatures (Signatures (first ∷ rest))
     one_function : (is : FunctionTree) → F is → Fits OfFunction (AFunction is)
-    one_program : (types : List Declaration) (functions : List FunctionTree) → Each (OfName (T false)) types
-        → Each F functions → Fits OfProgram (AProgram types functions)
+    one_program : (types : List Declaration) (functions : List FunctionTree) → AllOf (OfName (T false)) types
+        → AllOf F functions → Fits OfProgram (AProgram types functions)
     one_token : (is : Token) → Fits OfToken (AToken is)
     one_literal : (is : Token) (value : Constant) → constant_of is.kind ≡ Some value → OfValue L value
         → Fits OfLiteral (AToken is)
@@ -207,7 +203,7 @@ module _ (facts : Facts) where
 
   pub program_in : (part : Part) → Fits OfProgram part
       → (types : List Declaration) × (functions : List FunctionTree) × (part ≡ AProgram types functions)
-      × Each (OfName (T false)) types × Each F functions
+      × AllOf (OfName (T false)) types × AllOf F functions
   program_in _ (one_program types functions are so) = (types, functions, refl, are, so)
 
   pub data AreFit : List Sort → List Part → Type 0 where

@@ -2,6 +2,7 @@
 use Rattle.std.proofs.Common.{◌≡◌, ◌∙◌, sym, ap, subst, refl, ℕ, true, false, List, ◌∷◌, map}
 use Rattle.std.proofs.Common.{eq-eqb}
 use Rattle.std.specs.Prelude.{nat_eq}
+use Rattle.std.specs.List.{AllByRecursion as AllOf}
 use Rattle.cd_lr.specs.Grammar.{Symbol, Terminal, one, made, Row, nothing, next, Whole}
 use Rattle.cd_lr.specs.Tables.{right}
 use Rattle.cd_lr.proofs.GoalsFirst.{whole_by_text}
@@ -14,7 +15,7 @@ use Rattle.cd_grammar.specs.Terminals.{terminal_of_goal}
 use Rattle.cd_grammar.specs.Language.{Entry, To, Placed, place_of, kind_of, value_of, is_free, build, cduce_grammar}
 use Rattle.cd_grammar.specs.Tables.{tables}
 use Rattle.cd_grammar.proofs.Sorts.{Sort, OfTree, OfFile, OfProgram, sort_of}
-use Rattle.cd_grammar.proofs.SortedParts.{Facts, AreKept, Fits, AreFit, Each}
+use Rattle.cd_grammar.proofs.SortedParts.{Facts, AreKept, Fits, AreFit}
 use Rattle.cd_grammar.proofs.SortedMakes.{made_fits}
 use Rattle.cd_grammar.proofs.Rules.{parts_of, IsStart, a_type, empty_file, a_file, empty_program, a_program, is_start}
 use Rattle.cd_grammar.proofs.SortedTokens.{IsProper}
@@ -84,7 +85,7 @@ module _ (facts : Facts) (kept : AreKept facts) where
       made_fits facts kept false OfProgram (make.Two two.Second) (place_of values) (parts_of values) are
 
   -- what it is as a whole
-  pub whole_fits : (is : Goal) (depth : ℕ) (rest : List Entry) (v : Placed) → Each (IsProper facts.of_label) rest
+  pub whole_fits : (is : Goal) (depth : ℕ) (rest : List Entry) (v : Placed) → AllOf (IsProper facts.of_label) rest
       → Whole cduce_grammar depth (To is ∷ rest) v → Fits facts (sort_of_goal is) v.1
   whole_fits is depth rest v are derived =
       let (p, same, values, row_is, made_so) =

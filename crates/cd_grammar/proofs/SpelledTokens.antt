@@ -1,12 +1,12 @@
 -- The words and the names of atoms among the tokens of a text are labels, but the word `_`.
 use Rattle.std.proofs.Common.{ℕ, ◌+◌, Bool, false, List, map}
+use Rattle.std.specs.List.{AllByRecursion as AllOf}
 use Rattle.cd_syntax.specs.declared.tokens.Token.{Token}
 use Rattle.cd_syntax.specs.declared.tokens.TokenKind.{TokenKind}
 use Rattle.cd_syntax.specs.Name.{IsLabel}
 use Rattle.cd_syntax.specs.Tokens.{bytes, joins, IsLexemeOf, Lexes, word, number, negative, chars, text, atom, sign}
 use Rattle.cd_syntax.specs.Tokens.{nothing, dropped, token}
 use Rattle.cd_grammar.specs.Language.{Read}
-use Rattle.cd_grammar.proofs.SortedParts.{Each}
 use Rattle.cd_grammar.proofs.SortedTokens.{IsNamed, IsProper}
 
 written_is_named : (joined : Bool) (written after : List ℕ) (kind : TokenKind) → IsLexemeOf joined written after kind
@@ -20,7 +20,7 @@ written_is_named joined _ _ _ (atom name after label ends) = label
 written_is_named joined _ _ _ (sign is after longest no_pair no_number) = tt
 
 pub tokens_are_proper : (joined : Bool) (at : ℕ) (source : List ℕ) (tokens : List Token)
-    → Lexes joined at source tokens → Each (IsProper IsLabel) (map Read tokens)
+    → Lexes joined at source tokens → AllOf (IsProper IsLabel) (map Read tokens)
 tokens_are_proper _ _ _ _ (nothing joined at) = tt
 tokens_are_proper _ _ _ _ (dropped joined at written after tokens drops lexes) =
     tokens_are_proper false (at + bytes written) after tokens lexes

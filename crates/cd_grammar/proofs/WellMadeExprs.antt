@@ -1,5 +1,6 @@
 -- What rules make of well made expressions, functions and programs is well made.
 use Rattle.std.proofs.Common.{◌≢◌, ℕ, List, [], ◌∷◌, Option, Some, None}
+use Rattle.std.specs.List.{AllByRecursion as AllOf}
 use Rattle.cd_syntax.specs.Name.{Name, IsLabel}
 use Rattle.cd_syntax.specs.WellMade.{IsWellMade}
 use Rattle.cd_program.specs.declared.operator.Form.{Form}
@@ -12,40 +13,40 @@ use Rattle.cd_syntax.specs.WellMadePattern.{IsWellMadePattern}
 use Rattle.cd_program.specs.WellMade.{IsWellMadeExprKind, AreWellMadeExprs, AreWellMadeItems, AreWellMadeExprFields}
 use Rattle.cd_program.specs.WellMade.{AreWellMadeTails, AreWellMadeBranches, IsWellMadeFunction, HasName}
 use Rattle.cd_program.specs.WellMade.{AreWellMadeFunctions}
-use Rattle.cd_grammar.proofs.SortedParts.{ExprsAreKept, OfItem, OfExprField, OfTail, OfBranch, OfSignature, Each}
+use Rattle.cd_grammar.proofs.SortedParts.{ExprsAreKept, OfItem, OfExprField, OfTail, OfBranch, OfSignature}
 use Rattle.cd_grammar.proofs.WellMadeFacts.{well_made}
 use Rattle.cd_grammar.proofs.WellMadePatterns.{value_made}
 
-exprs_made : (all : List Expr) → Each IsWellMadeExpr all → AreWellMadeExprs (exprs_of all)
+exprs_made : (all : List Expr) → AllOf IsWellMadeExpr all → AreWellMadeExprs (exprs_of all)
 exprs_made [] are = tt
 exprs_made (first ∷ rest) are = (are.0, exprs_made rest are.1)
 
-items_made : (all : List Item) → Each (OfItem IsWellMadeExpr) all → AreWellMadeItems (items_of all)
+items_made : (all : List Item) → AllOf (OfItem IsWellMadeExpr) all → AreWellMadeItems (items_of all)
 items_made [] are = tt
 items_made (One is ∷ rest) are = (are.0, items_made rest are.1)
 items_made (Splice is ∷ rest) are = (are.0, items_made rest are.1)
 items_made (Run characters ∷ rest) are = (tt, items_made rest are.1)
 
-fields_made : (all : List Field) → Each (OfExprField IsWellMadeExpr IsLabel) all → AreWellMadeExprFields (fields_of all)
+fields_made : (all : List Field) → AllOf (OfExprField IsWellMadeExpr IsLabel) all → AreWellMadeExprFields (fields_of all)
 fields_made [] are = tt
 fields_made (first ∷ rest) are = (are.0.0, are.0.1, fields_made rest are.1)
 
-tails_made : (all : List Tail) → Each (OfTail IsWellMadeExpr IsLabel) all → AreWellMadeTails (tails_of all)
+tails_made : (all : List Tail) → AllOf (OfTail IsWellMadeExpr IsLabel) all → AreWellMadeTails (tails_of all)
 tails_made [] are = tt
 tails_made (Operand op is ∷ rest) are = (are.0, tails_made rest are.1)
 tails_made (Without label ∷ rest) are = (are.0, tails_made rest are.1)
 tails_made (Select label ∷ rest) are = (are.0, tails_made rest are.1)
 
-branches_made : (all : List Branch) → Each (OfBranch IsWellMadePattern IsWellMadeExpr) all
+branches_made : (all : List Branch) → AllOf (OfBranch IsWellMadePattern IsWellMadeExpr) all
     → AreWellMadeBranches (branches_of all)
 branches_made [] are = tt
 branches_made (first ∷ rest) are = (are.0.0, are.0.1, branches_made rest are.1)
 
-signatures_made : (all : List Signature) → Each (OfSignature IsWellMade) all → AreWellMadeSignatures all
+signatures_made : (all : List Signature) → AllOf (OfSignature IsWellMade) all → AreWellMadeSignatures all
 signatures_made [] are = tt
 signatures_made (first ∷ rest) are = (are.0.0, are.0.1, signatures_made rest are.1)
 
-pub functions_made : (all : List FunctionTree) → Each (λ is. HasName is × IsWellMadeFunction is) all
+pub functions_made : (all : List FunctionTree) → AllOf (λ is. HasName is × IsWellMadeFunction is) all
     → AreWellMadeFunctions all
 functions_made [] are = tt
 functions_made (first ∷ rest) are = (are.0.0, are.0.1, functions_made rest are.1)
@@ -61,7 +62,7 @@ some_arrow : (first : Signature) (rest : List Signature) → first ∷ rest ≢ 
 some_arrow first rest same = cc
 
 matching_made : (is : Form) (value : Expr) (first : Branch) (rest : List Branch) → IsWellMadeExpr value
-    → Each (OfBranch IsWellMadePattern IsWellMadeExpr) (first ∷ rest)
+    → AllOf (OfBranch IsWellMadePattern IsWellMadeExpr) (first ∷ rest)
     → IsWellMadeExprKind (of_form is value (branches_of (first ∷ rest)))
 matching_made form.Match value first rest is are = (is, some_branch first _, branches_made (first ∷ rest) are)
 matching_made form.Try value first rest is are = (is, some_branch first _, branches_made (first ∷ rest) are)
@@ -69,8 +70,8 @@ matching_made form.Map value first rest is are = (is, some_branch first _, branc
 matching_made form.Transform value first rest is are = (is, some_branch first _, branches_made (first ∷ rest) are)
 
 function_made : (word : ℕ) (name : Option Name) (name_at : ℕ) (arrow : Signature) (arrows : List Signature)
-    (first : Branch) (rest : List Branch) → IsWellMadeName name → Each (OfSignature IsWellMade) (arrow ∷ arrows)
-    → Each (OfBranch IsWellMadePattern IsWellMadeExpr) (first ∷ rest)
+    (first : Branch) (rest : List Branch) → IsWellMadeName name → AllOf (OfSignature IsWellMade) (arrow ∷ arrows)
+    → AllOf (OfBranch IsWellMadePattern IsWellMadeExpr) (first ∷ rest)
     → IsWellMadeFunction (function word name name_at (arrow ∷ arrows) (branches_of (first ∷ rest)))
 function_made word name name_at arrow arrows first rest is are so = (
   is,

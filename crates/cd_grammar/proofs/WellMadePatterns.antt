@@ -1,5 +1,6 @@
 -- What rules make of well made patterns is well made.
 use Rattle.std.proofs.Common.{true, List, [], ◌∷◌}
+use Rattle.std.specs.List.{AllByRecursion as AllOf}
 use Rattle.cd_syntax.specs.declared.constant.Constant.{Constant}
 use Rattle.cd_syntax.specs.declared.constant.Constant.TheVariants as constants
 use Rattle.cd_syntax.specs.Name.{IsLabel}
@@ -8,27 +9,27 @@ use Rattle.cd_syntax.specs.TypeTree.{declarations_of, regulars_of}
 use Rattle.cd_syntax.specs.WellMadePattern.{IsWellMadePattern, AreWellMadePatterns, AreWellMadePatternSigns}
 use Rattle.cd_syntax.specs.WellMadePattern.{AreWellMadePatternFields, AreWellMadePatternDeclarations}
 use Rattle.cd_syntax.specs.WellMadePattern.{IsWellMadePatternRegular, AreWellMadePatternRegulars, IsWellMadeConstant}
-use Rattle.cd_grammar.proofs.SortedParts.{TreesAreKept, PatternsAreKept, OfSign, OfField, OfName, OfValue, Each}
+use Rattle.cd_grammar.proofs.SortedParts.{TreesAreKept, PatternsAreKept, OfSign, OfField, OfName, OfValue}
 use Rattle.cd_grammar.proofs.WellMadeFacts.{well_made}
 
-trees_made : (all : List Tree) → Each IsWellMadePattern all → AreWellMadePatterns (trees_of all)
+trees_made : (all : List Tree) → AllOf IsWellMadePattern all → AreWellMadePatterns (trees_of all)
 trees_made [] are = tt
 trees_made (first ∷ rest) are = (are.0, trees_made rest are.1)
 
-regulars_made : (all : List Regular) → Each IsWellMadePatternRegular all → AreWellMadePatternRegulars (regulars_of all)
+regulars_made : (all : List Regular) → AllOf IsWellMadePatternRegular all → AreWellMadePatternRegulars (regulars_of all)
 regulars_made [] are = tt
 regulars_made (first ∷ rest) are = (are.0, regulars_made rest are.1)
 
-signs_made : (all : List Signed) → Each (OfSign IsWellMadePattern) all → AreWellMadePatternSigns (signs_of all)
+signs_made : (all : List Signed) → AllOf (OfSign IsWellMadePattern) all → AreWellMadePatternSigns (signs_of all)
 signs_made [] are = tt
 signs_made (first ∷ rest) are = (are.0, signs_made rest are.1)
 
-fields_made : (all : List Field) → Each (OfField IsWellMadePattern IsLabel) all
+fields_made : (all : List Field) → AllOf (OfField IsWellMadePattern IsLabel) all
     → AreWellMadePatternFields (fields_of all)
 fields_made [] are = tt
 fields_made (first ∷ rest) are = (are.0.0, are.0.1, fields_made rest are.1)
 
-declarations_made : (all : List Declaration) → Each (OfName IsWellMadePattern) all
+declarations_made : (all : List Declaration) → AllOf (OfName IsWellMadePattern) all
     → AreWellMadePatternDeclarations (declarations_of all)
 declarations_made [] are = tt
 declarations_made (first ∷ rest) are = (are.0, declarations_made rest are.1)

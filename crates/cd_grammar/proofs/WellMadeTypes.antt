@@ -1,30 +1,31 @@
 -- What rules make of well made types is well made.
 use Rattle.std.proofs.Common.{false, List, [], ◌∷◌}
+use Rattle.std.specs.List.{AllByRecursion as AllOf}
 use Rattle.cd_syntax.specs.Name.{IsLabel}
 use Rattle.cd_syntax.specs.TypeTree.{Tree, Signed, Field, Declaration, Regular, trees_of}
 use Rattle.cd_syntax.specs.TypeTree.{signs_of, fields_of, declarations_of, regulars_of}
 use Rattle.cd_syntax.specs.WellMade.{IsWellMade, AreWellMade, AreWellMadeSigns, AreWellMadeFields}
 use Rattle.cd_syntax.specs.WellMade.{AreWellMadeDeclarations, IsWellMadeRegular, AreWellMadeRegulars}
-use Rattle.cd_grammar.proofs.SortedParts.{TreesAreKept, OfSign, OfField, OfName, Each}
+use Rattle.cd_grammar.proofs.SortedParts.{TreesAreKept, OfSign, OfField, OfName}
 use Rattle.cd_grammar.proofs.WellMadeFacts.{well_made}
 
-trees_made : (all : List Tree) → Each IsWellMade all → AreWellMade (trees_of all)
+trees_made : (all : List Tree) → AllOf IsWellMade all → AreWellMade (trees_of all)
 trees_made [] are = tt
 trees_made (first ∷ rest) are = (are.0, trees_made rest are.1)
 
-regulars_made : (all : List Regular) → Each IsWellMadeRegular all → AreWellMadeRegulars (regulars_of all)
+regulars_made : (all : List Regular) → AllOf IsWellMadeRegular all → AreWellMadeRegulars (regulars_of all)
 regulars_made [] are = tt
 regulars_made (first ∷ rest) are = (are.0, regulars_made rest are.1)
 
-signs_made : (all : List Signed) → Each (OfSign IsWellMade) all → AreWellMadeSigns (signs_of all)
+signs_made : (all : List Signed) → AllOf (OfSign IsWellMade) all → AreWellMadeSigns (signs_of all)
 signs_made [] are = tt
 signs_made (first ∷ rest) are = (are.0, signs_made rest are.1)
 
-fields_made : (all : List Field) → Each (OfField IsWellMade IsLabel) all → AreWellMadeFields (fields_of all)
+fields_made : (all : List Field) → AllOf (OfField IsWellMade IsLabel) all → AreWellMadeFields (fields_of all)
 fields_made [] are = tt
 fields_made (first ∷ rest) are = (are.0.0, are.0.1, fields_made rest are.1)
 
-pub declarations_made : (all : List Declaration) → Each (OfName IsWellMade) all
+pub declarations_made : (all : List Declaration) → AllOf (OfName IsWellMade) all
     → AreWellMadeDeclarations (declarations_of all)
 declarations_made [] are = tt
 declarations_made (first ∷ rest) are = (are.0, declarations_made rest are.1)

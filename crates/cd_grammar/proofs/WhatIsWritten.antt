@@ -1,5 +1,6 @@
 -- What is written as a type is a tree, what is written as a file is one, and so is what is written as a program.
 use Rattle.std.proofs.Common.{◌≡◌, ℕ, false, List, [], ◌∷◌, map}
+use Rattle.std.specs.List.{AllByRecursion as AllOf}
 use Rattle.cd_syntax.specs.declared.tokens.Span.{Span}
 use Rattle.cd_syntax.specs.declared.tokens.Token.{Token}
 use Rattle.cd_syntax.specs.declared.tokens.TokenKind.{TokenKind}
@@ -11,7 +12,7 @@ use Rattle.cd_grammar.specs.declared.goal.Goal.{Goal}
 use Rattle.cd_grammar.specs.declared.goal.Goal.TheVariants as goal
 use Rattle.cd_grammar.specs.Parts.{Part, ATree, AFile, AProgram}
 use Rattle.cd_grammar.specs.Language.{Entry, To, Read, Later, Placed, Writes, cduce_grammar}
-use Rattle.cd_grammar.proofs.SortedParts.{Facts, AreKept, Fits, Each, tree_in, file_in, program_in}
+use Rattle.cd_grammar.proofs.SortedParts.{Facts, AreKept, Fits, tree_in, file_in, program_in}
 use Rattle.cd_grammar.proofs.SortedTokens.{IsNamed, IsProper}
 use Rattle.cd_grammar.proofs.SortedWholes.{sort_of_goal, whole_fits}
 
@@ -83,7 +84,7 @@ each_proper (To goal) = tt
 each_proper (Read token) = each_named token.kind
 each_proper (Later token) = each_named token.kind
 
-all_proper : (entries : List Entry) → Each (IsProper no_fact.of_label) entries
+all_proper : (entries : List Entry) → AllOf (IsProper no_fact.of_label) entries
 all_proper [] = tt
 all_proper (first ∷ rest) = (each_proper first, all_proper rest)
 

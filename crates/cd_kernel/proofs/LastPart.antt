@@ -10,7 +10,7 @@ use Rattle.cd_matching.specs.declared.pattern.RegPat.{RegPat as CodeRegular}
 use Rattle.cd_kernel.specs.Automaton.{Move, items_in, items_in_all}
 use Rattle.cd_kernel.specs.Inner.Rows.{plain_row, plain_rows, followed, first_moves_row, after_row}
 use Rattle.cd_kernel.specs.Inner.Rows.{rows_back, rows_back_in_turn, rows_back_of_one}
-use Rattle.cd_kernel.specs.declared.moves.Row.{Row as CodeRow}
+use Rattle.cd_kernel.specs.declared.moves.Moves.{Moves as CodeMoves}
 use Rattle.cd_kernel.proofs.NextItem.{at_item}
 
 abbrev pub parts_left : List CodeRegular → ℕ → Regulars NodeId
@@ -71,7 +71,7 @@ of_one_step first rest left at less next old rows new are sum so_far made = made
     (rows_back first less next)
     ∙ sym (ap (λ (parts : Regulars NodeId). old ++ rows_back_of_one parts less next) are)
 
-pub rows_turned : (rows : List CodeRow) → plain_rows (reverse rows) ≡ reverse (plain_rows rows)
+pub rows_turned : (rows : List CodeMoves) → plain_rows (reverse rows) ≡ reverse (plain_rows rows)
 rows_turned [] = refl
 rows_turned (row ∷ rows) = ap plain_rows (reverse-append (row ∷ []) rows)
     ∙ map-append plain_row (reverse rows) (row ∷ [])

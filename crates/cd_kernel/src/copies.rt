@@ -13,7 +13,7 @@ ghost use Rattle.cd_kernel.specs.Inner.Rows.{plain_row, plain_rows};
 use crate::count::count;
 use crate::first_moves::first_moves;
 use crate::gathering::{Group, add_gathering};
-use crate::moves::{Move, Row};
+use crate::moves::{Move, Moves};
 use crate::names::number;
 use crate::rows::{Steps, places, put_row, put_rows};
 use crate::states::add_states;
@@ -25,8 +25,8 @@ use std::alloc::{AllocError, Global};
 /// The moves of an expression: the first ones, and those after each item.
 #[derive(Drop)]
 pub(crate) struct Plan {
-    pub(crate) start: Row,
-    pub(crate) rows: Vec<Row>,
+    pub(crate) start: Moves,
+    pub(crate) rows: Vec<Moves>,
 }
 
 /// The moves of an expression.
@@ -45,7 +45,7 @@ fn plan_of(alloc: Global, is: &RegPat) -> Result<Plan, AllocError>
     ensures { IfOk result (λ plan. IsPlanOf (plain_regular is.now) plan) }
 {
     let start = first_moves(alloc, is, 0)?;
-    let end = Row::one(alloc, Move::End)?;
+    let end = Moves::one(alloc, Move::End)?;
     let mut rows = Vec::new(alloc);
     add_states(alloc, is, 0, &end, &mut rows)?;
     rows.reverse();

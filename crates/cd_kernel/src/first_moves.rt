@@ -8,7 +8,7 @@ ghost use Rattle.cd_kernel.specs.Inner.Rows.{turns_row, first_row, first_moves_r
 ghost use Rattle.cd_kernel.specs.Inner.Rows.{first_moves_in_turn_row};
 ghost use Rattle.cd_kernel.specs.Inner.Rows.{first_moves_of_one_row};
 
-use crate::moves::{Move, Row};
+use crate::moves::{Move, Moves};
 use cd_matching::pattern::RegPat;
 use cd_syntax::type_tree::Post;
 use std::alloc::{AllocError, Global};
@@ -42,13 +42,13 @@ pub(crate) fn items_in_all(all: &[RegPat]) -> usize
 
 /// The first moves of an expression, whose items are numbered after this number.
 #[cycle(first_moves)]
-pub(crate) fn first_moves(alloc: Global, is: &RegPat, before: usize) -> Result<Row, AllocError>
+pub(crate) fn first_moves(alloc: Global, is: &RegPat, before: usize) -> Result<Moves, AllocError>
     requires { before + items_in (plain_regular is.now) < 2 ^ 64 }
     ensures { IfOk result (λ row. plain_row row ≡ first_moves_row (plain_regular is.now) before) }
 {
     match is {
-        RegPat::Nothing => Row::one(alloc, Move::End),
-        RegPat::Item(_) => Row::one(alloc, Move::To(before)),
+        RegPat::Nothing => Moves::one(alloc, Move::End),
+        RegPat::Item(_) => Moves::one(alloc, Move::To(before)),
         RegPat::Seq(all) => first_moves_in_turn(alloc, all.items.as_slice(), before),
         RegPat::Alt(all) => first_moves_of_one(alloc, all.items.as_slice(), before),
         RegPat::Repeat(is, post) => {
@@ -60,12 +60,12 @@ pub(crate) fn first_moves(alloc: Global, is: &RegPat, before: usize) -> Result<R
 }
 
 #[cycle(first_moves)]
-fn first_moves_in_turn(alloc: Global, all: &[RegPat], before: usize) -> Result<Row, AllocError>
+fn first_moves_in_turn(alloc: Global, all: &[RegPat], before: usize) -> Result<Moves, AllocError>
     requires { before + items_in_all (regulars_of (map plain_regular all.now)) < 2 ^ 64 }
     ensures { IfOk result (λ row. plain_row row
         ≡ first_moves_in_turn_row (End ∷ []) (regulars_of (map plain_regular all.now)) before) }
 {
-    let mut row = Row::one(alloc, Move::End)?;
+    let mut row = Moves::one(alloc, Move::End)?;
     let mut at = before;
     for is in all {
         if !row.has(Move::End) {
@@ -79,12 +79,12 @@ fn first_moves_in_turn(alloc: Global, all: &[RegPat], before: usize) -> Result<R
 }
 
 #[cycle(first_moves)]
-fn first_moves_of_one(alloc: Global, all: &[RegPat], before: usize) -> Result<Row, AllocError>
+fn first_moves_of_one(alloc: Global, all: &[RegPat], before: usize) -> Result<Moves, AllocError>
     requires { before + items_in_all (regulars_of (map plain_regular all.now)) < 2 ^ 64 }
     ensures { IfOk result (λ row. plain_row row
         ≡ first_moves_of_one_row [] (regulars_of (map plain_regular all.now)) before) }
 {
-    let mut row = Row::new(alloc);
+    let mut row = Moves::new(alloc);
     let mut at = before;
     for is in all {
         let others = first_moves(alloc, is, at)?;
@@ -94,27 +94,27 @@ fn first_moves_of_one(alloc: Global, all: &[RegPat], before: usize) -> Result<Ro
     Ok(row)
 }
 
-/// A row with another one in the place of the end.
-pub(crate) fn followed(alloc: Global, row: &Row, next: &Row) -> Result<Row, AllocError>
+/// Moves with others in the place of the end.
+pub(crate) fn followed(alloc: Global, row: &Moves, next: &Moves) -> Result<Moves, AllocError>
     ensures { IfOk result (λ both.
         plain_row both ≡ followed (plain_row row.now) (plain_row next.now)) }
 {
     Ok(row.followed(alloc, next)?)
 }
 
-/// The moves after the turns of a repeat so far, where each turn begins with a row.
-pub(crate) fn turns(alloc: Global, post: Post, turn: &Row) -> Result<Row, AllocError>
+/// The moves after the turns of a repeat so far, where each turn begins with these.
+pub(crate) fn turns(alloc: Global, post: Post, turn: &Moves) -> Result<Moves, AllocError>
     ensures { IfOk result (λ row. plain_row row ≡ turns_row post (plain_row turn.now)) }
 {
     match post {
         Post::Star | Post::Plus => greedy(alloc, turn),
         Post::LazyStar | Post::LazyPlus => lazy(alloc, turn),
-        Post::Opt | Post::LazyOpt => Row::one(alloc, Move::End),
+        Post::Opt | Post::LazyOpt => Moves::one(alloc, Move::End),
     }
 }
 
-// The first moves of a repeat, where each turn begins with a row.
-fn first_turn(alloc: Global, post: Post, turn: &Row) -> Result<Row, AllocError>
+// The first moves of a repeat, where each turn begins with these.
+fn first_turn(alloc: Global, post: Post, turn: &Moves) -> Result<Moves, AllocError>
     ensures { IfOk result (λ row. plain_row row ≡ first_row post (plain_row turn.now)) }
 {
     match post {
@@ -130,38 +130,38 @@ fn first_turn(alloc: Global, post: Post, turn: &Row) -> Result<Row, AllocError>
 }
 
 // Another turn, or else the end.
-fn greedy(alloc: Global, turn: &Row) -> Result<Row, AllocError>
+fn greedy(alloc: Global, turn: &Moves) -> Result<Moves, AllocError>
     ensures { IfOk result (λ row. plain_row row ≡ greedy (plain_row turn.now)) }
 {
-    let mut row = Row::new(alloc);
-    row.add_instead(turn, &Row::new(alloc))?;
+    let mut row = Moves::new(alloc);
+    row.add_instead(turn, &Moves::new(alloc))?;
     row.add(Move::End)?;
     Ok(row)
 }
 
 // The end, or else another turn.
-fn lazy(alloc: Global, turn: &Row) -> Result<Row, AllocError>
+fn lazy(alloc: Global, turn: &Moves) -> Result<Moves, AllocError>
     ensures { IfOk result (λ row. plain_row row ≡ lazy (plain_row turn.now)) }
 {
-    let mut row = Row::one(alloc, Move::End)?;
-    row.add_instead(turn, &Row::new(alloc))?;
+    let mut row = Moves::one(alloc, Move::End)?;
+    row.add_instead(turn, &Moves::new(alloc))?;
     Ok(row)
 }
 
-fn before_end(alloc: Global, turn: &Row) -> Result<Row, AllocError>
+fn before_end(alloc: Global, turn: &Moves) -> Result<Moves, AllocError>
     ensures { IfOk result (λ row.
         plain_row row ≡ with_move (added [] (plain_row turn.now)) End) }
 {
-    let mut row = Row::new(alloc);
+    let mut row = Moves::new(alloc);
     row.add_all(turn)?;
     row.add(Move::End)?;
     Ok(row)
 }
 
-fn after_end(alloc: Global, turn: &Row) -> Result<Row, AllocError>
+fn after_end(alloc: Global, turn: &Moves) -> Result<Moves, AllocError>
     ensures { IfOk result (λ row. plain_row row ≡ added (End ∷ []) (plain_row turn.now)) }
 {
-    let mut row = Row::one(alloc, Move::End)?;
+    let mut row = Moves::one(alloc, Move::End)?;
     row.add_all(turn)?;
     Ok(row)
 }

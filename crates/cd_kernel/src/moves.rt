@@ -1,4 +1,4 @@
-//! Rows of moves.
+//! Moves of the states of an automaton.
 ghost use Rattle.std.specs.Prelude.{◌≡◌, true};
 ghost use Rattle.cd_kernel.specs.Inner.PlainMoves.{plain_moves, has_each_once};
 
@@ -13,7 +13,7 @@ pub(crate) enum Move {
 
 /// The moves of a state in the order in which they are tried, each once.
 #[derive(Drop)]
-pub(crate) struct Row {
+pub(crate) struct Moves {
     pub(crate) moves: Vec<Move>,
     ghost once: { has_each_once (plain_moves moves.items) ≡ true },
 }
@@ -45,37 +45,37 @@ impl Move {
     }
 }
 
-impl Row {
+impl Moves {
     ghost use Rattle.std.specs.Prelude.{◌<◌, ◌++◌, ◌∷◌, [], length, IfOk, OnOk};
     ghost use Rattle.std.specs.Option.{IfSome};
     ghost use Rattle.cd_kernel.specs.Inner.PlainMoves.{plain_move, has};
     ghost use Rattle.cd_kernel.specs.Inner.Rows.{plain_row, with_move, added, added_instead};
     ghost use Rattle.cd_kernel.specs.Inner.Rows.{in_place, followed, end_of, less, between};
 
-    /// The row without a move.
-    pub(crate) fn new(alloc: Global) -> Row
+    /// No moves.
+    pub(crate) fn new(alloc: Global) -> Moves
         ensures { plain_row result ≡ [] }
     {
-        Row {
+        Moves {
             moves: Vec::new(alloc),
         }
     }
 
-    /// The row of this move.
-    pub(crate) fn one(alloc: Global, only: Move) -> Result<Row, AllocError>
+    /// This move alone.
+    pub(crate) fn one(alloc: Global, only: Move) -> Result<Moves, AllocError>
         ensures { IfOk result (λ row. plain_row row ≡ plain_move only ∷ []) }
     {
         let mut moves = Vec::new(alloc);
         moves.push(only)?;
-        Ok(Row { moves })
+        Ok(Moves { moves })
     }
 
-    /// An equal row.
-    pub(crate) fn copy(&self, alloc: Global) -> Result<Row, AllocError>
+    /// The same moves.
+    pub(crate) fn copy(&self, alloc: Global) -> Result<Moves, AllocError>
         ensures { IfOk result (λ same. plain_row same ≡ plain_row self.now) }
     {
         let moves = Vec::from_slice(alloc, self.moves.as_slice())?;
-        Ok(Row { moves })
+        Ok(Moves { moves })
     }
 
     /// Whether it has a move.
@@ -96,8 +96,8 @@ impl Row {
         Ok(())
     }
 
-    /// Puts the moves of another row after the others, each once.
-    pub(crate) fn add_all(&mut self, more: &Row) -> Result<(), AllocError>
+    /// Puts the moves of another state after the others, each once.
+    pub(crate) fn add_all(&mut self, more: &Moves) -> Result<(), AllocError>
         ensures { OnOk result (plain_row self.new
             ≡ added (plain_row self.old) (plain_row more.now)) }
     {
@@ -107,8 +107,8 @@ impl Row {
         Ok(())
     }
 
-    /// The same, with those of a third row in the place of the end.
-    pub(crate) fn add_instead(&mut self, more: &Row, next: &Row) -> Result<(), AllocError>
+    /// The same, with those of a third one in the place of the end.
+    pub(crate) fn add_instead(&mut self, more: &Moves, next: &Moves) -> Result<(), AllocError>
         ensures { OnOk result (plain_row self.new
             ≡ added_instead (plain_row self.old) (plain_row more.now) (plain_row next.now)) }
     {
@@ -119,7 +119,7 @@ impl Row {
     }
 
     // A move, in whose place others stand if it is the end.
-    fn add_in_place(&mut self, one: Move, next: &Row) -> Result<(), AllocError>
+    fn add_in_place(&mut self, one: Move, next: &Moves) -> Result<(), AllocError>
         ensures { OnOk result (plain_row self.new
             ≡ added (plain_row self.old) (in_place (plain_move one) (plain_row next.now))) }
     {
@@ -129,20 +129,20 @@ impl Row {
         }
     }
 
-    /// The row with another one in the place of the end. As each row has each of its moves once,
+    /// These moves with those of another state in the place of the end. As no move stands twice,
     /// only those of the other one are tested against the moves before the end, and those after it
     /// against the other one.
-    pub(crate) fn followed(&self, alloc: Global, next: &Row) -> Result<Row, AllocError>
+    pub(crate) fn followed(&self, alloc: Global, next: &Moves) -> Result<Moves, AllocError>
         ensures { IfOk result (λ both.
             plain_row both ≡ followed (plain_row self.now) (plain_row next.now)) }
     {
         let moves = self.moves.as_slice();
-        match Row::end(moves) {
+        match Moves::end(moves) {
             None => Ok(self.copy(alloc)?),
             Some(end) => {
                 let others = next.moves.as_slice();
-                let moves = Row::between(alloc, &moves[..end], others, &moves[end + 1..])?;
-                Ok(Row { moves })
+                let moves = Moves::between(alloc, &moves[..end], others, &moves[end + 1..])?;
+                Ok(Moves { moves })
             }
         }
     }
@@ -170,12 +170,12 @@ impl Row {
             ≡ between (plain_moves before.now) (plain_moves next.now) (plain_moves after.now)) }
     {
         let mut moves = Vec::from_slice(alloc, before)?;
-        Row::add_less(before, next, &mut moves)?;
-        Row::add_less(next, after, &mut moves)?;
+        Moves::add_less(before, next, &mut moves)?;
+        Moves::add_less(next, after, &mut moves)?;
         Ok(moves)
     }
 
-    // Puts those that are not in a row after others.
+    // Puts those that are not among the first ones after others.
     fn add_less(row: &[Move], more: &[Move], moves: &mut Vec<Move>) -> Result<(), AllocError>
         ensures { OnOk result (plain_moves moves.new.items
             ≡ plain_moves moves.old.items ++ less (plain_moves row.now) (plain_moves more.now)) }

@@ -12,7 +12,7 @@ ghost use Rattle.cd_kernel.specs.Inner.PlainMoves.{plain_move, plain_moves};
 ghost use Rattle.cd_kernel.specs.Inner.Rows.{plain_row, plain_rows};
 
 use crate::chain::put;
-use crate::moves::{Move, Row};
+use crate::moves::{Move, Moves};
 use cd_graph::built_in::{ANY, EMPTY, NIL};
 use cd_matching::kernel::KernelNode;
 use cd_sets::node_id::NodeId;
@@ -53,7 +53,7 @@ fn of_moves(group: usize, moves: &[Move]) -> Option<usize>
 }
 
 // How many nodes stand before the last one of a state.
-fn before_row(group: usize, row: &Row) -> Option<usize>
+fn before_row(group: usize, row: &Moves) -> Option<usize>
     ensures { IfSome result (λ count. count ≡ before_row group (plain_row row.now)) }
 {
     match row.moves.as_slice() {
@@ -62,12 +62,12 @@ fn before_row(group: usize, row: &Row) -> Option<usize>
     }
 }
 
-/// The nodes of the states of these rows, where the first one's are put after so many.
+/// The nodes of the states with these moves, where the first one's are put after so many.
 pub(crate) fn places(
     alloc: Global,
     group: usize,
     before: usize,
-    rows: &[Row],
+    rows: &[Moves],
 ) -> Result<Vec<usize>, AllocError>
     ensures { IfOk result (λ places.
         places.items ≡ places_of group before (plain_rows rows.now)) }
@@ -82,7 +82,7 @@ pub(crate) fn places(
     Ok(places)
 }
 
-fn place(group: usize, at: usize, row: &Row) -> Result<usize, AllocError>
+fn place(group: usize, at: usize, row: &Moves) -> Result<usize, AllocError>
     ensures { IfOk result (λ place. place ≡ at + before_row group (plain_row row.now)) }
 {
     before_row(group, row)
@@ -202,7 +202,7 @@ fn moves_chain(
 /// Puts a state after these nodes, and gives its number.
 pub(crate) fn put_row(
     steps: &Steps,
-    row: &Row,
+    row: &Moves,
     nodes: &mut Vec<KernelNode>,
 ) -> Result<usize, AllocError>
     ensures { IfOk result (λ number. (number, plain_nodes nodes.new.items)
@@ -224,10 +224,10 @@ fn put_failing(steps: &Steps, nodes: &mut Vec<KernelNode>) -> Result<usize, Allo
     Ok(put(KernelNode::Both(first, second), nodes)?)
 }
 
-/// Puts the states of these rows after these nodes.
+/// Puts the states with these moves after these nodes.
 pub(crate) fn put_rows(
     steps: &Steps,
-    rows: &[Row],
+    rows: &[Moves],
     nodes: &mut Vec<KernelNode>,
 ) -> Result<(), AllocError>
     ensures { OnOk result (plain_nodes nodes.new.items

@@ -8,7 +8,7 @@ ghost use Rattle.cd_kernel.specs.Inner.Rows.{first_moves_row, rows_back, rows_ba
 ghost use Rattle.cd_kernel.specs.Inner.Rows.{rows_back_of_one};
 
 use crate::first_moves::{first_moves, followed, items_in, items_in_all, turns};
-use crate::moves::Row;
+use crate::moves::Moves;
 use cd_matching::pattern::RegPat;
 use cd_syntax::type_tree::Post;
 use std::alloc::{AllocError, Global};
@@ -20,8 +20,8 @@ pub(crate) fn add_states(
     alloc: Global,
     is: &RegPat,
     before: usize,
-    next: &Row,
-    rows: &mut Vec<Row>,
+    next: &Moves,
+    rows: &mut Vec<Moves>,
 ) -> Result<(), AllocError>
     requires { before + items_in (plain_regular is.now) < 2 ^ 64 }
     ensures { OnOk result (plain_rows rows.new.items ≡ plain_rows rows.old.items
@@ -47,8 +47,8 @@ fn add_in_turn(
     alloc: Global,
     all: &[RegPat],
     before: usize,
-    next: &Row,
-    rows: &mut Vec<Row>,
+    next: &Moves,
+    rows: &mut Vec<Moves>,
 ) -> Result<(), AllocError>
     requires { before + items_in_all (regulars_of (map plain_regular all.now)) < 2 ^ 64 }
     ensures { OnOk result (plain_rows rows.new.items ≡ plain_rows rows.old.items
@@ -73,8 +73,8 @@ fn first_moves_before(
     alloc: Global,
     is: &RegPat,
     before: usize,
-    next: &Row,
-) -> Result<Row, AllocError>
+    next: &Moves,
+) -> Result<Moves, AllocError>
     requires { before + items_in (plain_regular is.now) < 2 ^ 64 }
     ensures { IfOk result (λ row. plain_row row
         ≡ followed (first_moves_row (plain_regular is.now) before) (plain_row next.now)) }
@@ -89,8 +89,8 @@ fn add_of_one(
     alloc: Global,
     all: &[RegPat],
     before: usize,
-    next: &Row,
-    rows: &mut Vec<Row>,
+    next: &Moves,
+    rows: &mut Vec<Moves>,
 ) -> Result<(), AllocError>
     requires { before + items_in_all (regulars_of (map plain_regular all.now)) < 2 ^ 64 }
     ensures { OnOk result (plain_rows rows.new.items ≡ plain_rows rows.old.items
@@ -114,8 +114,8 @@ fn after_turn(
     is: &RegPat,
     post: Post,
     before: usize,
-    next: &Row,
-) -> Result<Row, AllocError>
+    next: &Moves,
+) -> Result<Moves, AllocError>
     requires { before + items_in (plain_regular is.now) < 2 ^ 64 }
     ensures { IfOk result (λ row. plain_row row ≡ followed
         (turns_row post (first_moves_row (plain_regular is.now) before)) (plain_row next.now)) }
@@ -125,8 +125,8 @@ fn after_turn(
     Ok(followed(alloc, &again, next)?)
 }
 
-// Adds a row of these moves.
-fn add_row(alloc: Global, moves: &Row, rows: &mut Vec<Row>) -> Result<(), AllocError>
+// Adds a state with these moves.
+fn add_row(alloc: Global, moves: &Moves, rows: &mut Vec<Moves>) -> Result<(), AllocError>
     ensures { OnOk result (plain_rows rows.new.items
         ≡ plain_rows rows.old.items ++ plain_row moves.now ∷ []) }
 {

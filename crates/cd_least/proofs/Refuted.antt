@@ -39,7 +39,7 @@ use Rattle.cd_least.proofs.ArrowsAlike.{written_within, intersection_within}
 use Rattle.cd_least.proofs.CapturedTypes.{first_of_more, below_captured}
 
 module _ (scope : Scope) where
-  -- what is told of an operand leaves it without a type within what is needed
+  -- what is reported of an operand leaves it without a type within what is needed
   pub misses_none : (types : Types) (e : Expr) (needed : Set) (at : ℕ) (d : Thing) → Misses scope types e needed at d
       → (t : Typ) → IsType t → Has scope types e t → In t ⊆ needed → ⊥
   misses_none types e needed at d misses t is has within = misses.outside (within d misses.element (misses.least t is has))

@@ -49,11 +49,11 @@ abbrev pub NotZero : Set
 NotZero d = d ≡ Integer (pos 0) → ⊥
 
 module _ (scope : Scope) where
-  -- an operand is told under this rule
+  -- an operand is reported under this rule
   abbrev pub Breaks : Types → Expr → (needed : Set) → (is : Rule) → (at : ℕ) → Rule → Thing → Type 0
   Breaks types e needed is at reported d = (reported ≡ is) × Misses scope types e needed at d
 
-  -- the one operand or the other is told
+  -- the one operand or the other is reported
   abbrev pub BreaksOne : Types → (first second : Expr) → (needed : Set) → (is : Rule) → (at : ℕ) → Rule
       → Thing → Type 0
   BreaksOne types first second needed is at reported d =
@@ -117,7 +117,7 @@ module _ (scope : Scope) where
       HasSome scope types first × IsReached op.Or (Least scope types first)
   IsReachedAfter types is first = Unit {0}
 
-  -- what is told of the body of a branch beside its own faults
+  -- what is reported of the body of a branch beside its own faults
   abbrev pub Owed : Type 1
   Owed = Types → Expr → (at : ℕ) → Rule → Thing → Type 0
 

@@ -6,9 +6,9 @@ use Rattle.cd_lr.specs.Grammar.{Symbol, Terminal, Grammar, Derives, one, made, R
 use Rattle.cd_lr.proofs.Depths.{fits_room, levels, room_within}
 
 -- two lists of the same length, whose tokens at each place are related
-pub data Each {Token : Type 0} (Is : Token → Token → Type 0) : List Token → List Token → Type 0 where
-  none : Each Is [] []
-  more : (t u : Token) (ts us : List Token) → Is t u → Each Is ts us → Each Is (t ∷ ts) (u ∷ us)
+pub data Pairwise {Token : Type 0} (Is : Token → Token → Type 0) : List Token → List Token → Type 0 where
+  none : Pairwise Is [] []
+  more : (t u : Token) (ts us : List Token) → Is t u → Pairwise Is ts us → Pairwise Is (t ∷ ts) (u ∷ us)
 
 module _ {Token : Type 0} (Is : Token → Token → Type 0) where
   -- a list that is related to two lists, one after the other, is in two parts
@@ -16,13 +16,13 @@ module _ {Token : Type 0} (Is : Token → Token → Type 0) where
     pub prefix : List Token
     pub back : List Token
     pub same : us ≡ prefix ++ back
-    pub of_first : Each Is first prefix
-    pub of_second : Each Is second back
+    pub of_first : Pairwise Is first prefix
+    pub of_second : Pairwise Is second back
 
-  pub parted : (first second us : List Token) → Each Is (first ++ second) us → Parted first second us
-  parted [] second us each = record { prefix = []; back = us; same = refl; of_first = none; of_second = each }
-  parted (t ∷ first) second _ (more _ u _ us is each) =
-      let on = parted first second us each in
+  pub parted : (first second us : List Token) → Pairwise Is (first ++ second) us → Parted first second us
+  parted [] second us related = record { prefix = []; back = us; same = refl; of_first = none; of_second = related }
+  parted (t ∷ first) second _ (more _ u _ us is related) =
+      let on = parted first second us related in
       record {
         prefix = u ∷ on.prefix;
         back = on.back;
@@ -32,11 +32,11 @@ module _ {Token : Type 0} (Is : Token → Token → Type 0) where
       }
 
   -- and lists that are related are so one after the other
-  pub joined : (a b first second : List Token) → Each Is a b → Each Is first second
-      → Each Is (a ++ first) (b ++ second)
-  joined _ _ first second none each = each
-  joined _ _ first second (more t u ts us is on) each =
-      more t u (ts ++ first) (us ++ second) is (joined ts us first second on each)
+  pub joined : (a b first second : List Token) → Pairwise Is a b → Pairwise Is first second
+      → Pairwise Is (a ++ first) (b ++ second)
+  joined _ _ first second none related = related
+  joined _ _ first second (more t u ts us is on) related =
+      more t u (ts ++ first) (us ++ second) is (joined ts us first second on related)
 
 module _ {Token Value : Type 0} (g : Grammar Token Value) where
   -- tokens with the same terminal and the same value
@@ -67,18 +67,18 @@ module _ {Token Value : Type 0} (g : Grammar Token Value) where
 
   -- of tokens that are as free, at the same depth
   mutual
-    pub freed : (depth : ℕ) (x : Symbol) (ts us : List Token) (v : Value) → Derives g depth x ts v → Each Freer ts us
+    pub freed : (depth : ℕ) (x : Symbol) (ts us : List Token) (v : Value) → Derives g depth x ts v → Pairwise Freer ts us
         → Derives g depth x us v
     freed _ _ _ _ _ (one depth opens t fit) (more _ u _ _ is none) =
         one_of depth opens t u is.alike (fits_freer t u opens depth is fit)
-    freed _ _ _ us _ (made depth p tokens values row) each =
-        made depth p us values (freed_row depth (g.right p) tokens us values row each)
+    freed _ _ _ us _ (made depth p tokens values row) related =
+        made depth p us values (freed_row depth (g.right p) tokens us values row related)
 
     freed_row : (depth : ℕ) (xs : List Symbol) (ts us : List Token) (values : List Value) → Row g depth xs ts values
-        → Each Freer ts us → Row g depth xs us values
+        → Pairwise Freer ts us → Row g depth xs us values
     freed_row _ _ _ _ _ (nothing depth) none = nothing depth
-    freed_row _ _ _ us _ (next depth x rest a b v vs is row) each =
-        let parts = parted Freer a b us each in
+    freed_row _ _ _ us _ (next depth x rest a b v vs is row) related =
+        let parts = parted Freer a b us related in
         subst (λ all. Row g depth (x ∷ rest) all (v ∷ vs)) (sym parts.same)
         (next depth x rest parts.prefix parts.back v vs (freed depth x a parts.prefix v is parts.of_first)
         (freed_row (within g depth x) rest b parts.back vs row parts.of_second))
@@ -95,22 +95,22 @@ module _ {Token Value : Type 0} (g : Grammar Token Value) where
 
   -- of tokens that are less free, at some depth
   mutual
-    pub deep : (depth : ℕ) (x : Symbol) (ts us : List Token) (v : Value) → Derives g depth x ts v → Each Alike ts us
+    pub deep : (depth : ℕ) (x : Symbol) (ts us : List Token) (v : Value) → Derives g depth x ts v → Pairwise Alike ts us
         → Deep x us v
     deep _ _ _ _ _ (one depth opens t fit) (more _ u _ _ is none) =
         record {
           least = opens;
           derives = λ depth less. one_of depth opens t u is (fits_room (g.free u) opens depth less);
         }
-    deep _ _ _ us _ (made depth p tokens values row) each =
-        let all = deep_row depth (g.right p) tokens us values row each in
+    deep _ _ _ us _ (made depth p tokens values row) related =
+        let all = deep_row depth (g.right p) tokens us values row related in
         record { least = all.least; derives = λ depth less. made depth p us values (all.derives depth less) }
 
     deep_row : (depth : ℕ) (xs : List Symbol) (ts us : List Token) (values : List Value) → Row g depth xs ts values
-        → Each Alike ts us → DeepRow xs us values
+        → Pairwise Alike ts us → DeepRow xs us values
     deep_row _ _ _ _ _ (nothing depth) none = record { least = zero; derives = λ depth less. nothing depth }
-    deep_row _ _ _ us _ (next depth x rest a b v vs is row) each =
-        let parts = parted Alike a b us each in
+    deep_row _ _ _ us _ (next depth x rest a b v vs is row) related =
+        let parts = parted Alike a b us related in
         let first = deep depth x a parts.prefix v is parts.of_first in
         let others = deep_row (within g depth x) rest b parts.back vs row parts.of_second in
         record {

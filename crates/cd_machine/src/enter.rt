@@ -74,8 +74,7 @@ fn enter_kind<'p>(
         ExprKind::Sequence(items) => enter_sequence(values, items.items(), env),
         ExprKind::Record(fields) => enter_record(values, fields.items(), env),
         ExprKind::Xml(tag, attributes, content) => {
-            let frame = Frame::Tagging(attributes, content, env);
-            Ok(Turn::evaluate(tag, env, Some(frame)))
+            Ok(Turn::evaluate(tag, env, Some(Frame::Tagging(attributes, content, env))))
         }
         ExprKind::Function(function) => {
             enter_function(values, environments, parts, function.at, env)
@@ -94,16 +93,13 @@ fn enter_kind<'p>(
             Ok(Turn::evaluate(value, env, Some(Frame::Sifting(branches, env))))
         }
         ExprKind::Let(pattern, value, rest) => {
-            let frame = Frame::Letting(pattern, rest, env);
-            Ok(Turn::evaluate(value, env, Some(frame)))
+            Ok(Turn::evaluate(value, env, Some(Frame::Letting(pattern, rest, env))))
         }
         ExprKind::If(condition, then_one, else_one) => {
-            let frame = Frame::Asking(then_one, else_one, env);
-            Ok(Turn::evaluate(condition, env, Some(frame)))
+            Ok(Turn::evaluate(condition, env, Some(Frame::Asking(then_one, else_one, env))))
         }
         ExprKind::Chain(first, tails) => {
-            let frame = Frame::Tailing(tails.items(), env);
-            Ok(Turn::evaluate(first, env, Some(frame)))
+            Ok(Turn::evaluate(first, env, Some(Frame::Tailing(tails.items(), env))))
         }
         ExprKind::Call(word, operand) => {
             Ok(Turn::evaluate(operand, env, Some(Frame::Wording(*word))))

@@ -69,14 +69,14 @@ sequence_text pieces = codes "[" ++ joined (codes " ") (map piece_text pieces) +
 
 -- what stands along the right of an element: first parts of pairs, and the text of what stands at
 -- the end, unless it is the atom `nil`
-pub record Row : Type 0 where
+pub record Spine : Type 0 where
   pub parts : List Part
   pub end : Option Text
 
 -- pairs that end in `nil` are a sequence, and others a tuple
-abbrev pub row_text : List Part → Option Text → Text
-row_text parts None = sequence_text (pieces_of parts)
-row_text parts (Some end) =
+abbrev pub spine_text : List Part → Option Text → Text
+spine_text parts None = sequence_text (pieces_of parts)
+spine_text parts (Some end) =
     codes "(" ++ joined (codes ", ") (map part_text parts) ++ codes ", " ++ end ++ codes ")"
 
 -- how an element is written: by itself, as a first part, along the right, and as the fields between
@@ -84,7 +84,7 @@ row_text parts (Some end) =
 pub record Printed : Type 0 where
   pub text : Text
   pub part : Part
-  pub row : Row
+  pub spine : Spine
   pub fields : List Text
 
 -- what is no pair and no record
@@ -92,7 +92,7 @@ abbrev pub plainly : Text → Printed
 plainly text = record {
   text = text;
   part = Other text;
-  row = record { parts = []; end = Some text };
+  spine = record { parts = []; end = Some text };
   fields = [];
 }
 
@@ -102,7 +102,7 @@ letter_printed c =
     record {
       text = text;
       part = Letter c;
-      row = record { parts = []; end = Some text };
+      spine = record { parts = []; end = Some text };
       fields = [];
     }
 
@@ -111,7 +111,7 @@ abbrev pub nil_printed : Printed
 nil_printed = record {
   text = codes "[]";
   part = Other (codes "[]");
-  row = record { parts = []; end = None };
+  spine = record { parts = []; end = None };
   fields = [];
 }
 
@@ -120,12 +120,12 @@ atom_printed name = if bytes_eq name (codes "nil") then nil_printed else plainly
 
 abbrev pub pair_printed : Printed → Printed → Printed
 pair_printed first second =
-    let parts = first.part ∷ second.row.parts in
-    let text = row_text parts second.row.end in
+    let parts = first.part ∷ second.spine.parts in
+    let text = spine_text parts second.spine.end in
     record {
       text = text;
       part = Other text;
-      row = record { parts = parts; end = second.row.end };
+      spine = record { parts = parts; end = second.spine.end };
       fields = [];
     }
 
@@ -135,7 +135,7 @@ record_printed fields =
     record {
       text = text;
       part = Other text;
-      row = record { parts = []; end = Some text };
+      spine = record { parts = []; end = Some text };
       fields = fields;
     }
 

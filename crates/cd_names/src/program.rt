@@ -18,7 +18,7 @@ use crate::trees::check_trees;
 use cd_program::expr::FunctionTree;
 use cd_program::program::{FunctionTrees, Program};
 use cd_resolve::error::NameError;
-use cd_resolve::least::{first_of, tell_least};
+use cd_resolve::least::{first_of, report_least};
 use cd_resolve::{NameIndex, check_declarations, names_of};
 use cd_syntax::name::Name;
 use std::alloc::{AllocError, Global};
@@ -39,7 +39,7 @@ pub fn check_program(alloc: Global, program: &Program) -> Result<(), NameError>
     let found = walk_program(alloc, program)?;
     let names = names_of(alloc, &program.types)?;
     let declared = check_declarations(alloc, &program.types);
-    let reported = first_of(declared, tell_least(alloc, found.faults.as_slice()));
+    let reported = first_of(declared, report_least(alloc, found.faults.as_slice()));
     first_of(reported, check_trees(alloc, &names, found.trees.as_slice()))
 }
 

@@ -19,7 +19,7 @@ use Rattle.cd_documents.specs.Document.{IsDocument, AreFields, AreMoreFields, Ar
 use Rattle.cd_print.proofs.OneSign.{IsAlone, open_brace, close_brace, equal, semicolon, less, greater}
 use Rattle.cd_print.proofs.ReadsOn.{Reads, PrintedAs, weaker, token_then, sign_then, blank_then, value_then}
 use Rattle.cd_print.proofs.TextsJoined.{after, joined_after}
-use Rattle.cd_print.proofs.RowsRead.{Split, Only, only, Printed}
+use Rattle.cd_print.proofs.SpinesRead.{Split, Only, only, Printed}
 
 -- the texts of fields
 abbrev pub field_text : Name → Text → Text

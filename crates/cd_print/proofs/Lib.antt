@@ -2,7 +2,7 @@ pub mod Stacks
 pub mod Literals
 mod NilSpelled
 mod Writing
-mod Rows
+mod Spines
 mod FieldRows
 pub mod OneSign
 pub mod Decimals
@@ -10,6 +10,6 @@ pub mod QuotedBack
 pub mod ReadsOn
 pub mod TextsJoined
 pub mod PlainRead
-pub mod RowsRead
+pub mod SpinesRead
 pub mod FieldsRead
 pub mod ReadBack

@@ -15,7 +15,7 @@ use Rattle.cd_syntax.specs.Tokens.{at}
 use Rattle.cd_syntax.specs.declared.sign.Sign.TheVariants as sign
 use Rattle.cd_syntax.specs.declared.tokens.TokenKind.TheVariants as token
 use Rattle.cd_model.specs.AllOf.{AllOf}
-use Rattle.cd_model.specs.Canonical.{Letter, Row, atom_printed, nil_printed, plainly, xml_printed, tag_name, row_text, printed, field_texts, canonical}
+use Rattle.cd_model.specs.Canonical.{Letter, Spine, atom_printed, nil_printed, plainly, xml_printed, tag_name, spine_text, printed, field_texts, canonical}
 use Rattle.cd_model.specs.Thing.{Thing, Integer, Character, Atom, Pair, Xml, Record, Function, Closure, Fields, NoField, Field}
 use Rattle.cd_model.specs.Thing.{IsValue, AreValues, IsData, AreData, IsAtom, IsRecord, LabelsRise}
 use Rattle.cd_documents.specs.Document as document
@@ -25,7 +25,7 @@ use Rattle.cd_print.specs.Brackets.{brackets, along, within, of_fields, is_text}
 use Rattle.cd_print.proofs.OneSign.{open_bracket, close_bracket}
 use Rattle.cd_print.proofs.ReadsOn.{sign_then}
 use Rattle.cd_print.proofs.PlainRead.{integer_back, character_back, atom_back}
-use Rattle.cd_print.proofs.RowsRead.{Only, only, Printed, PartIs, RowIs, letter, stands, nil_end, value_end, before, row_back, letters_back}
+use Rattle.cd_print.proofs.SpinesRead.{Only, only, Printed, PartIs, SpineIs, letter, stands, nil_end, value_end, before, spine_back, letters_back}
 use Rattle.cd_print.proofs.FieldsRead.{FieldsAre, no_text, field_text_is, record_back, xml_back}
 
 left_le : (a b most : ℕ) → max a b ≤ most → a ≤ most
@@ -60,12 +60,12 @@ atom_text name depth le is = by_test (bytes_eq name (codes "nil")) refl le
     by_test true test le = subst (Printed depth (codes "[]")) (is_nil name test) (nil_deep depth le)
     by_test false test le = atom_back depth name is
 
-atom_row : (name : Name) (depth : ℕ) → IsLabel name → RowIs depth (atom_printed name).row.parts (atom_printed name).row.end (Atom name)
-atom_row name depth is = by_test (bytes_eq name (codes "nil")) refl
+atom_spine : (name : Name) (depth : ℕ) → IsLabel name → SpineIs depth (atom_printed name).spine.parts (atom_printed name).spine.end (Atom name)
+atom_spine name depth is = by_test (bytes_eq name (codes "nil")) refl
   where
     by_test : (test : Bool) → bytes_eq name (codes "nil") ≡ test
-        → RowIs depth (if test then nil_printed else plainly (codes "`" ++ name)).row.parts (if test then nil_printed else plainly (codes "`" ++ name)).row.end (Atom name)
-    by_test true test = subst (RowIs depth [] None) (is_nil name test) nil_end
+        → SpineIs depth (if test then nil_printed else plainly (codes "`" ++ name)).spine.parts (if test then nil_printed else plainly (codes "`" ++ name)).spine.end (Atom name)
+    by_test true test = subst (SpineIs depth [] None) (is_nil name test) nil_end
     by_test false test = value_end (codes "`" ++ name) (Atom name) (atom_back depth name is)
 
 atom_part : (name : Name) (depth : ℕ) → Printed depth (atom_printed name).text (Atom name) → PartIs depth (atom_printed name).part (Atom name)
@@ -86,22 +86,22 @@ part_of (Record fields) depth is back = stands (printed (Record fields)).text (R
 part_of (Function pairs) depth is back = absurd is
 part_of (Closure function environment) depth is back = stands (codes "<fun>") (Closure function environment) back
 
--- a row of characters and `nil`
+-- a spine of characters and `nil`
 record IsLetters (v : Thing) : Type 0 where
   cs : List ℕ
   all : AllOf IsScalar cs
   value : v ≡ characters_before cs the_nil
-  row : (printed v).row ≡ record { parts = map Letter cs; end = None }
+  spine : (printed v).spine ≡ record { parts = map Letter cs; end = None }
 
 letters_of : (v : Thing) → IsValue v → is_text v ≡ true → IsLetters v
 letters_of (Atom name) is test = record {
   cs = [];
   all = tt;
   value = sym (is_nil name test);
-  row = by_test (bytes_eq name (codes "nil")) test;
+  spine = by_test (bytes_eq name (codes "nil")) test;
 }
   where
-    by_test : (test : Bool) → test ≡ true → (if test then nil_printed else plainly (codes "`" ++ name)).row ≡ record { parts = []; end = None }
+    by_test : (test : Bool) → test ≡ true → (if test then nil_printed else plainly (codes "`" ++ name)).spine ≡ record { parts = []; end = None }
     by_test true same = refl
     by_test false same = absurd (true≢false (sym same))
 letters_of (Pair (Character c) rest) is test =
@@ -110,7 +110,7 @@ letters_of (Pair (Character c) rest) is test =
       cs = c ∷ others.cs;
       all = (is.0, others.all);
       value = ap (Pair (Character c)) others.value;
-      row = ap (λ (row : Row). record { parts = Letter c ∷ row.parts; end = row.end }) others.row;
+      spine = ap (λ (spine : Spine). record { parts = Letter c ∷ spine.parts; end = spine.end }) others.spine;
     }
 letters_of (Pair (Integer n) rest) is test = absurd (true≢false (sym test))
 letters_of (Pair (Atom name) rest) is test = absurd (true≢false (sym test))
@@ -131,23 +131,23 @@ text_pair : (first second : Thing) (depth : ℕ) → IsValue (Pair first second)
 text_pair first second depth is test =
     by_letters (letters_of (Pair first second) is test)
   where
-    by_row : (row : Row) (c : ℕ) (cs : List ℕ) → AllOf IsScalar (c ∷ cs) → row ≡ record { parts = map Letter (c ∷ cs); end = None }
-        → Printed depth (row_text row.parts row.end) (characters_before (c ∷ cs) the_nil)
-    by_row row c cs all is =
-        subst (λ (row : Row). Printed depth (row_text row.parts row.end) (characters_before (c ∷ cs) the_nil)) (sym is) (letters_back depth c cs all)
+    by_spine : (spine : Spine) (c : ℕ) (cs : List ℕ) → AllOf IsScalar (c ∷ cs) → spine ≡ record { parts = map Letter (c ∷ cs); end = None }
+        → Printed depth (spine_text spine.parts spine.end) (characters_before (c ∷ cs) the_nil)
+    by_spine spine c cs all is =
+        subst (λ (spine : Spine). Printed depth (spine_text spine.parts spine.end) (characters_before (c ∷ cs) the_nil)) (sym is) (letters_back depth c cs all)
 
     by_letters : IsLetters (Pair first second) → Printed depth (printed (Pair first second)).text (Pair first second)
-    by_letters letters = by_list letters.cs letters.all letters.value letters.row
+    by_letters letters = by_list letters.cs letters.all letters.value letters.spine
       where
         by_list : (cs : List ℕ) → AllOf IsScalar cs → Pair first second ≡ characters_before cs the_nil
-            → (printed (Pair first second)).row ≡ record { parts = map Letter cs; end = None }
+            → (printed (Pair first second)).spine ≡ record { parts = map Letter cs; end = None }
             → Printed depth (printed (Pair first second)).text (Pair first second)
-        by_list [] all value row = absurd cc
-        by_list (c ∷ cs) all value row = subst (Printed depth (printed (Pair first second)).text) (sym value) (by_row (printed (Pair first second)).row c cs all row)
+        by_list [] all value spine = absurd cc
+        by_list (c ∷ cs) all value spine = subst (Printed depth (printed (Pair first second)).text) (sym value) (by_spine (printed (Pair first second)).spine c cs all spine)
 
 pair_text : (first second : Thing) (depth : ℕ) → brackets (Pair first second) ≤ depth → IsValue (Pair first second)
     → ((depth : ℕ) → brackets first ≤ depth → Printed depth (printed first).text first)
-    → ((depth : ℕ) → along second ≤ depth → RowIs depth (printed second).row.parts (printed second).row.end second)
+    → ((depth : ℕ) → along second ≤ depth → SpineIs depth (printed second).spine.parts (printed second).spine.end second)
     → Printed depth (printed (Pair first second)).text (Pair first second)
 pair_text first second depth le is first_back second_back = by_test (is_text (Pair first second)) refl depth le
   where
@@ -157,7 +157,7 @@ pair_text first second depth le is first_back second_back = by_test (is_text (Pa
     by_test false test zero le = absurd (omega arith)
     by_test false test (suc depth) le =
         let most : max (brackets first) (along second) ≤ depth = omega arith in
-        row_back depth (printed first).part (printed second).row.parts (printed second).row.end first second
+        spine_back depth (printed first).part (printed second).spine.parts (printed second).spine.end first second
         (part_of first depth is.0 (first_back depth (left_le (brackets first) (along second) depth most)))
         (second_back depth (right_le (brackets first) (along second) depth most))
 
@@ -222,7 +222,7 @@ mutual
   text_back (Character c) depth le is data_is = character_back depth c is
   text_back (Atom name) depth le is data_is = atom_text name depth le is
   text_back (Pair first second) depth le is data_is =
-      pair_text first second depth le is (λ deep le. text_back first deep le is.0 data_is.0) (λ deep le. row_of second deep le is.1 data_is.1)
+      pair_text first second depth le is (λ deep le. text_back first deep le is.0 data_is.0) (λ deep le. spine_of second deep le is.1 data_is.1)
   text_back (Xml tag attributes content) depth le is data_is =
       xml_text tag attributes content depth le is
       (λ deep le. fields_of attributes deep le is.1 is.3 data_is.1)
@@ -232,24 +232,24 @@ mutual
   text_back (Function pairs) depth le is data_is = absurd is
   text_back (Closure function environment) depth le is data_is = absurd data_is
 
-  row_of : (v : Thing) (depth : ℕ) → along v ≤ depth → IsValue v → IsData v → RowIs depth (printed v).row.parts (printed v).row.end v
-  row_of (Integer n) depth le is data_is = value_end (printed (Integer n)).text (Integer n) (integer_back depth n is)
-  row_of (Character c) depth le is data_is = value_end (printed (Character c)).text (Character c) (character_back depth c is)
-  row_of (Atom name) depth le is data_is = atom_row name depth is
-  row_of (Pair first second) depth le is data_is =
-      before (printed first).part (printed second).row.parts (printed second).row.end first second
+  spine_of : (v : Thing) (depth : ℕ) → along v ≤ depth → IsValue v → IsData v → SpineIs depth (printed v).spine.parts (printed v).spine.end v
+  spine_of (Integer n) depth le is data_is = value_end (printed (Integer n)).text (Integer n) (integer_back depth n is)
+  spine_of (Character c) depth le is data_is = value_end (printed (Character c)).text (Character c) (character_back depth c is)
+  spine_of (Atom name) depth le is data_is = atom_spine name depth is
+  spine_of (Pair first second) depth le is data_is =
+      before (printed first).part (printed second).spine.parts (printed second).spine.end first second
       (part_of first depth is.0 (text_back first depth (left_le (brackets first) (along second) depth le) is.0 data_is.0))
-      (row_of second depth (right_le (brackets first) (along second) depth le) is.1 data_is.1)
-  row_of (Xml tag attributes content) depth le is data_is =
+      (spine_of second depth (right_le (brackets first) (along second) depth le) is.1 data_is.1)
+  spine_of (Xml tag attributes content) depth le is data_is =
       value_end (printed (Xml tag attributes content)).text (Xml tag attributes content)
       (xml_text tag attributes content depth le is
       (λ deep le. fields_of attributes deep le is.1 is.3 data_is.1)
       (λ deep le. text_back content deep le is.4 data_is.2))
-  row_of (Record fields) depth le is data_is =
+  spine_of (Record fields) depth le is data_is =
       value_end (printed (Record fields)).text (Record fields)
       (record_text fields depth le (λ deep le. each_back fields deep None [] le (λ label above. refl) is.0 is.1 data_is))
-  row_of (Function pairs) depth le is data_is = absurd is
-  row_of (Closure function environment) depth le is data_is = absurd data_is
+  spine_of (Function pairs) depth le is data_is = absurd is
+  spine_of (Closure function environment) depth le is data_is = absurd data_is
 
   fields_of : (v : Thing) (depth : ℕ) → within v ≤ depth → IsRecord v → IsValue v → IsData v → HasFields depth v
   fields_of (Record fields) depth le is_record is data_is =

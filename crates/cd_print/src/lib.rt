@@ -5,7 +5,7 @@ mod fields;
 pub mod laws;
 mod look;
 pub mod print;
-mod row;
+mod spine;
 mod task;
 mod value;
 

@@ -55,7 +55,7 @@ pub(crate) enum Along {
 
 /// How the pairs along the right go on at a value.
 pub(crate) fn goes_on(values: &Values, id: ValueId) -> Along
-    ensures row { GoesOn values.now id result }
+    ensures spine { GoesOn values.now id result }
     ensures lower { IsLower result id }
 {
     match look_at(values, id) {

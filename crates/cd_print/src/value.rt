@@ -9,7 +9,7 @@ ghost use Rattle.cd_print.specs.Inner.Tasks.{Writes};
 
 use crate::fields::{write_after_field, write_attributes, write_record, write_xml};
 use crate::look::{is_nil, look_at};
-use crate::row::{write_after_item, write_after_part, write_row};
+use crate::spine::{write_after_item, write_after_part, write_spine};
 use crate::task::{Task, Tasks};
 use cd_cells::{Look, ValueId, Values};
 use cd_elements::output::Output;
@@ -55,7 +55,7 @@ fn write_value<'v>(
         Some(Look::Int(n)) => output.push_number(n),
         Some(Look::Char(c)) => push_character(output, c),
         Some(Look::Atom(name)) => write_atom(values, name, output),
-        Some(Look::Pair(_, _)) => write_row(values, id, tasks, output),
+        Some(Look::Pair(_, _)) => write_spine(values, id, tasks, output),
         Some(Look::Xml(tag, attributes, content)) => {
             write_xml(values, tag, attributes, content, tasks, output)
         }

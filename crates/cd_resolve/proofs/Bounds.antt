@@ -46,7 +46,7 @@ module _ (nodes first : ℕ) (names : List (Name × NodeId))
   abbrev Bounded : Equations → Type 0
   Bounded s = AreBounded nodes first count s
 
-  -- the lists that a tree stands under have nodes
+  -- the levels that a tree stands under have nodes
   abbrev Have : ℕ → ScopeLevels → Type 0
   Have n levels = HaveNodes first names (IsNode nodes first) facts n levels
 

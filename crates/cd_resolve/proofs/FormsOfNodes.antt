@@ -37,7 +37,7 @@ module _ (graph : Graph) (first : ℕ) (equations : Equations) (names : List (Na
     (among : (is : Declared) → Fact is → IsIn is seen) (count : ℕ) (fits : length seen ≤ count)
     (solves : Solves graph first equations) (begins : Begins graph)
     (at_names : (name : Name) → IsGiven graph count base name (node_of names name)) where
-  -- a form under these lists leads to these names alone
+  -- a form under these levels leads to these names alone
   abbrev LeadsHere : List Declared → ScopeLevels → Kind → Type 0
   LeadsHere some levels kind = Leads Fact some (scope_of base levels) kind
 

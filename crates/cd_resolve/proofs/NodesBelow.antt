@@ -13,7 +13,7 @@ use Rattle.cd_resolve.specs.Inner.ScopeLevels.{ScopeLevel, ScopeLevels, number_i
 use Rattle.cd_resolve.specs.Inner.Walk.{level_after, walked, walked_regular}
 use Rattle.cd_resolve.proofs.NodesOfWalks.{IsOfNodes, HasNodes, HaveNodes, tree_has, regular_asks}
 
--- the nodes of the names of these lists are before that of the next equation
+-- the nodes of the names of these levels are before that of the next equation
 abbrev pub IsBefore : (first : ℕ) → Equations → ScopeLevel → Type 0
 IsBefore first s level = level.first + number_in level.declarations ≤ first + length s
 
@@ -26,7 +26,7 @@ pub before_later : (first : ℕ) (s t : Equations) (levels : ScopeLevels) → le
 before_later first s t levels longer before =
     each_weaker (IsBefore first s) (IsBefore first t) (λ level is. omega arith) levels before
 
--- and so is a list that is met, once its names have been entered
+-- and so is the level of a list that is met, once its names have been entered
 pub before_inside : (first : ℕ) (s t : Equations) (levels : ScopeLevels) (declarations : Declarations)
     → length s + number_in declarations ≤ length t → AreBefore first s levels
     → AreBefore first t (level_after first declarations s ∷ levels)

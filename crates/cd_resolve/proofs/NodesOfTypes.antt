@@ -27,7 +27,7 @@ of_tree first equations names levels (tree span kind) id equates = equates
 
 module _ (first : ℕ) (equations : Equations) (names : List (Name × NodeId)) (base : Scope)
     (Fact : Declared → Type 0) where
-  -- a node that has the equations of a form, under lists whose names have theirs, where each declared name has the fact
+  -- a node that has the equations of a form, under levels whose names have theirs, where each declared name has the fact
   pub record IsOf (levels : ScopeLevels) (kind : Kind) (id : NodeId) : Type 0 where
     pub around : AllEquated first equations names levels
     pub equates : EquatesKind first equations names levels kind id

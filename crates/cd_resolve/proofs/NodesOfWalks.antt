@@ -76,7 +76,7 @@ pub record IsOfNodes (first : ℕ) (names : List (Name × NodeId)) (Fact : ℕ �
 
 module _ (first : ℕ) (names : List (Name × NodeId)) (Fact : ℕ → NodeId → Type 0)
     (nodes : IsOfNodes first names Fact) where
-  -- the names of a list have the fact, and so those of each list
+  -- the names of a level have the fact, and so those of each level
   abbrev pub HasNodes : ℕ → ScopeLevel → Type 0
   HasNodes count level = (index : ℕ) → index < number_in level.declarations → Fact count (node (level.first + index))
 
@@ -89,14 +89,14 @@ module _ (first : ℕ) (names : List (Name × NodeId)) (Fact : ℕ → NodeId �
       (λ level has index within. nodes.grows count more (node (level.first + index)) longer
       (has index within)) levels have
 
-  -- a list that was met has the nodes of the next equations
+  -- the level of a list that was met has the nodes of the next equations
   pub level_has : (count : ℕ) (declarations : Declarations) (s : Equations) → length s + number_in declarations ≤ count
       → HasNodes count (level_after first declarations s)
   level_has count declarations s longer index within =
       subst (λ (number : ℕ). Fact count (node number)) (omega arith)
       (nodes.numbered count (length s + index) (omega arith))
 
-  -- a name under lists
+  -- a name under levels
   given_has : (count : ℕ) (name : Name) → Fact count (unwrap_or (node_of names name) EMPTY)
   given_has count name = by_node (node_of names name) refl
     where

@@ -1,4 +1,4 @@
--- The walk with the lists that each list of declarations stands under finds what the walk without them finds.
+-- The walk with the levels that each list of declarations stands under finds what the walk without them finds.
 use Rattle.std.proofs.Common.{◌≡◌, ℕ, List, [], ◌∷◌, ◌++◌, length, map, Bool, true, false, Option, Some, None, refl, ap}
 use Rattle.std.proofs.Common.{◌∙◌}
 use Rattle.std.specs.Prelude.{◌||◌}
@@ -15,7 +15,7 @@ use Rattle.cd_resolve.specs.Inner.Finding.{labelled, start_of, found_in, found_i
 use Rattle.cd_resolve.specs.Inner.Finding.{found_in_fields, found_in_declared, found_in_regular, found_in_regular_kind}
 use Rattle.cd_resolve.specs.Inner.Finding.{found_in_regulars, found_in_list}
 
--- the lists that each list of declarations stands under, itself the first, are kept
+-- the levels that each list of declarations stands under, its own the first, are kept
 abbrev pub whole : ScopeLevels → ScopeLevels
 whole levels = levels
 

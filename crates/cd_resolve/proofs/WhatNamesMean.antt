@@ -17,7 +17,7 @@ use Rattle.cd_resolve.proofs.FoundGrows.{Grows}
 abbrev pub scope_of : ScopeLevels → Scope
 scope_of levels = map (λ level. level.declarations) levels
 
--- each list of these stands at its number, with those round it
+-- each of these levels stands at the number of its list, with those round it
 abbrev pub Fits : List ScopeLevels → ScopeLevels → Type 0
 Fits lists [] = Unit {0}
 Fits lists (level ∷ outer) = (nth lists level.list ≡ Some (level ∷ outer)) × Fits lists outer

@@ -1,7 +1,7 @@
 pub mod FirstPlaces
 pub mod Faults
 pub mod Errors
-pub mod PlainTold
+pub mod PlainReported
 pub mod Least
 pub mod Named
 pub mod Wanted

@@ -5,7 +5,7 @@ ghost use Rattle.cd_resolve.specs.Inner.Cycles.{reached as reached_by, is_cyclic
 ghost use Rattle.cd_resolve.specs.Inner.Cycles.{reported_cycle, cycles_reported};
 ghost use Rattle.cd_resolve.specs.Inner.Ranks.{all_fall};
 ghost use Rattle.cd_resolve.specs.Inner.PlainFound.{plain_id, plain_link};
-ghost use Rattle.cd_resolve.specs.PlainTold.{plain_reported};
+ghost use Rattle.cd_resolve.specs.PlainReported.{plain_reported};
 
 use crate::compare::is_same;
 use crate::fault::NameFault;

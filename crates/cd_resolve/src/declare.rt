@@ -25,8 +25,8 @@ use cd_sets::node_id::NodeId;
 use cd_syntax::type_tree::{Declarations, Tree};
 use std::alloc::AllocError;
 
-/// Walks over a list of declarations that stands under no other, and gives it: the nodes of its
-/// names follow those that are there, and each holds what the name's tree does.
+/// Walks over a list of declarations that stands under no other, and gives its level: the nodes
+/// of its names follow those that are there, and each holds what the name's tree does.
 pub(crate) fn walk_list<'t>(
     base: &Base<'_, '_>,
     declarations: &'t Declarations,
@@ -78,7 +78,7 @@ pub(crate) fn walk_where<'t>(
     walk(base, body, levels.as_slice(), start, state, found)
 }
 
-// Walks over a list of declarations, and gives it with the lists round it.
+// Walks over a list of declarations, and gives its level with those round it.
 #[cycle(walk)]
 fn walk_under<'t>(
     base: &Base<'_, '_>,
@@ -108,7 +108,7 @@ fn walk_under<'t>(
     Ok(levels)
 }
 
-// Enters a list of declarations, whose trees are not read yet.
+// Enters a list of declarations, whose trees are not read yet, and gives its level.
 fn enter<'t>(
     base: &Base<'_, '_>,
     declarations: &'t Declarations,
@@ -132,8 +132,8 @@ fn enter<'t>(
     ScopeLevel::of(base.alloc, declarations, first, list)
 }
 
-// Walks over the trees of a list of declarations, which is the innermost of these, and whose names
-// have the equations from this number on.
+// Walks over the trees of a scope level, which is the innermost of these, and whose names have the
+// equations from this number on.
 #[cycle(walk)]
 fn walk_declared<'t>(
     base: &Base<'_, '_>,

@@ -8,7 +8,7 @@ ghost use Rattle.cd_resolve.specs.Least.{comes_first as comes_first_of};
 ghost use Rattle.cd_resolve.specs.Least.{goes_first as goes_first_error};
 ghost use Rattle.cd_resolve.specs.Least.{first_error as first_of_errors};
 ghost use Rattle.cd_resolve.specs.Least.{first_of as first_of_results};
-ghost use Rattle.cd_resolve.specs.PlainTold.{plain_reported, name_or_none};
+ghost use Rattle.cd_resolve.specs.PlainReported.{plain_reported, name_or_none};
 
 use crate::error::NameError;
 use crate::fault::NameFault;
@@ -16,9 +16,9 @@ use crate::reported::Reported;
 use cd_syntax::name::Name;
 use std::alloc::{AllocError, Global};
 
-/// Tells the least of these faults: the one with the least place, and at one place the first in the
+/// Reports the least of these faults: the one with the least place, and at one place the first in the
 /// order of `NameFault`.
-pub fn tell_least(alloc: Global, faults: &[Reported<'_>]) -> Result<(), NameError>
+pub fn report_least(alloc: Global, faults: &[Reported<'_>]) -> Result<(), NameError>
     ensures sound { OnOk result (least_from None (map plain_reported faults.now) ≡ None) }
     ensures fault { IfErr result
         (λ error. IsLeast (least_from None (map plain_reported faults.now)) error) }

@@ -25,7 +25,7 @@ pub(crate) struct Meaning {
     pub(crate) declared_at: DeclaredAt,
 }
 
-/// What a name means by the innermost list that declares it, or else by that which is seen from
+/// What a name means by the innermost level that declares it, or else by that which is seen from
 /// outside.
 pub(crate) fn meaning_of(
     base: &Base<'_, '_>,
@@ -45,7 +45,7 @@ pub(crate) fn meaning_of(
     meaning_outside(base, name)
 }
 
-// What a name means by the list that is seen from outside.
+// What a name means by the level that is seen from outside.
 fn meaning_outside(base: &Base<'_, '_>, name: &Name) -> Result<Option<Meaning>, AllocError>
     ensures node { IfOk result (λ meaning. id_or meaning NOTHING
         ≡ node_under (names_outside base.now) [] name.now) }
@@ -58,7 +58,7 @@ fn meaning_outside(base: &Base<'_, '_>, name: &Name) -> Result<Option<Meaning>, 
     }
 }
 
-// What a name means by a list, if this declares it.
+// What a name means by a level, if this declares it.
 fn meaning_in(level: &ScopeLevel<'_>, name: &Name) -> Result<Option<Meaning>, AllocError>
     ensures node { IfOk result (λ meaning. (outer : AnId) → id_or meaning outer
         ≡ declared_or (plain_level level.now).first

@@ -5,7 +5,7 @@ use crate::scope_level::ScopeLevel;
 /// The names of type declarations, with nodes that follow one another.
 #[derive(Drop)]
 pub struct Names<'t> {
-    // It is the first of the lists, and seen from outside of all others.
+    // Its list is the first, and seen from outside of all others.
     pub(crate) level: ScopeLevel<'t>,
     ghost first: { level.list ≡ 0 },
 }

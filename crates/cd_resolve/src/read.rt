@@ -14,7 +14,7 @@ ghost use Rattle.cd_resolve.specs.Least.{least_from, IsLeast};
 ghost use Rattle.cd_resolve.specs.Inner.Equation.{plain_equations};
 ghost use Rattle.cd_resolve.specs.Inner.Names.{numbered};
 ghost use Rattle.cd_resolve.specs.Inner.PlainBase.{names_outside, lists_outside};
-ghost use Rattle.cd_resolve.specs.PlainTold.{plain_reported};
+ghost use Rattle.cd_resolve.specs.PlainReported.{plain_reported};
 ghost use Rattle.cd_resolve.specs.Inner.PlainFound.{plain_found};
 ghost use Rattle.cd_resolve.specs.Inner.Walk.{walked, walked_list, walked_trees};
 
@@ -24,7 +24,7 @@ use crate::declare::walk_list;
 use crate::equation::Equation;
 use crate::error::NameError;
 use crate::found::Found;
-use crate::least::tell_least;
+use crate::least::report_least;
 use crate::names::Names;
 use crate::reported::Reported;
 use crate::state::State;
@@ -198,7 +198,7 @@ fn reported(alloc: Global, found: Found<'_>) -> Result<(), NameError>
         (λ error. IsLeast (least_from None (all_faults (plain_found found.entry))) error) }
 {
     let faults = faults_of(alloc, found)?;
-    tell_least(alloc, faults.as_slice())
+    report_least(alloc, faults.as_slice())
 }
 
 // All faults of what is found.

@@ -1,4 +1,4 @@
-//! The lists of declarations that a tree stands under, from the innermost.
+//! The scope levels that a tree stands under, from the innermost.
 ghost use Rattle.std.specs.Prelude.{◌≡◌, ◌∷◌, ◌++◌, IfOk, OnOk};
 ghost use Rattle.cd_resolve.specs.Inner.PlainFound.{list_level, list_levels};
 ghost use Rattle.cd_resolve.specs.Inner.PlainState.{plain_level, plain_levels};
@@ -6,7 +6,7 @@ ghost use Rattle.cd_resolve.specs.Inner.PlainState.{plain_level, plain_levels};
 use crate::scope_level::ScopeLevel;
 use std::alloc::{AllocError, Global};
 
-/// The lists of declarations with one more, which is the innermost.
+/// The scope levels with one more, which is the innermost.
 pub(crate) fn under<'t>(
     alloc: Global,
     level: &ScopeLevel<'t>,
@@ -23,7 +23,7 @@ pub(crate) fn under<'t>(
     Ok(levels)
 }
 
-// Adds the lists after those that are there.
+// Adds the levels after those that are there.
 fn add_all<'t>(levels: &mut Vec<ScopeLevel<'t>>, more: &[ScopeLevel<'t>]) -> Result<(), AllocError>
     ensures nodes { OnOk result (plain_levels levels.new.items
         ≡ plain_levels levels.old.items ++ plain_levels more.now) }

@@ -1,4 +1,4 @@
-//! A list of declarations that a tree stands under.
+//! A scope level: a list of declarations that a tree stands under.
 ghost use Rattle.std.specs.Prelude.{◌≡◌, IfOk};
 ghost use Rattle.cd_syntax.specs.PlainTree.{plain_declarations};
 ghost use Rattle.cd_resolve.specs.Inner.NamesDeclared.{names_in};
@@ -37,7 +37,7 @@ impl<'t> ScopeLevel<'t> {
     ghost use Rattle.cd_resolve.specs.Inner.PlainFound.{list_level};
     ghost use Rattle.cd_resolve.specs.Inner.PlainState.{plain_level};
 
-    /// This list, whose first name has the node of this number.
+    /// The level of this list, whose first name has the node of this number.
     pub(crate) fn of(
         alloc: Global,
         declarations: &'t Declarations,
@@ -65,7 +65,7 @@ impl<'t> ScopeLevel<'t> {
         })
     }
 
-    /// The same list.
+    /// The same level.
     pub(crate) fn copy(&self) -> Result<ScopeLevel<'t>, AllocError>
         ensures nodes { IfOk result (λ level. plain_level level ≡ plain_level self.now) }
         ensures list { IfOk result (λ level. list_level level ≡ list_level self.now) }

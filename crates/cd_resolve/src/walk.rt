@@ -32,8 +32,8 @@ use cd_syntax::name::Name;
 use cd_syntax::type_tree::{Signed, Tree, TreeKind, Trees};
 use std::alloc::AllocError;
 
-/// Walks over a tree under these lists of declarations, and gives the node of its type. `start` is
-/// the declared name that leads to the tree through no constructor, if one does.
+/// Walks over a tree under these scope levels, and gives the node of its type. `start` is the
+/// declared name that leads to the tree through no constructor, if one does.
 #[cycle(walk)]
 pub(crate) fn walk<'t>(
     base: &Base<'_, '_>,

@@ -103,14 +103,8 @@ fn look_by(
             open_xml(taker, kernel, values, value, node, parts)
         }
         KernelNode::Record(fields, more) => {
-            open_record(
-                taker,
-                kernel,
-                values,
-                value,
-                node,
-                (fields.as_slice(), *more),
-            )
+            let parts = (fields.as_slice(), *more);
+            open_record(taker, kernel, values, value, node, parts)
         }
     }
 }

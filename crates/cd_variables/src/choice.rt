@@ -9,7 +9,7 @@ ghost use Rattle.cd_variables.specs.FindingVariables.{choice_faults, other_fault
 ghost use Rattle.cd_variables.specs.FindingVariables.{reported_if, differ, names_among};
 ghost use Rattle.cd_variables.specs.FindingVariables.{regular_faults};
 ghost use Rattle.cd_variables.specs.PlainOccurrences.{plain_occurrence};
-ghost use Rattle.cd_resolve.specs.PlainTold.{plain_reported};
+ghost use Rattle.cd_resolve.specs.PlainReported.{plain_reported};
 
 use crate::name_set::{NameSet, report_if_differs};
 use crate::occurrence::Occurrence;

@@ -10,7 +10,7 @@ ghost use Rattle.cd_variables.specs.FindingMisplaced.{misplaced_in_declarations}
 ghost use Rattle.cd_variables.specs.FindingMisplaced.{misplaced_in_regular};
 ghost use Rattle.cd_variables.specs.FindingMisplaced.{misplaced_in_regular_kind};
 ghost use Rattle.cd_variables.specs.FindingMisplaced.{misplaced_in_regulars, one_misplaced};
-ghost use Rattle.cd_resolve.specs.PlainTold.{plain_reported};
+ghost use Rattle.cd_resolve.specs.PlainReported.{plain_reported};
 
 use cd_resolve::fault::NameFault;
 use cd_resolve::reported::Reported;

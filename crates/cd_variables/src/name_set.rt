@@ -5,7 +5,7 @@ ghost use Rattle.cd_variables.specs.VariableFaults.{differs};
 ghost use Rattle.cd_variables.specs.FindingVariables.{has_name, names_among, differ, reported_if};
 ghost use Rattle.cd_variables.specs.FindingVariables.{HaveSameNames};
 ghost use Rattle.cd_variables.specs.PlainOccurrences.{plain_occurrence};
-ghost use Rattle.cd_resolve.specs.PlainTold.{plain_reported};
+ghost use Rattle.cd_resolve.specs.PlainReported.{plain_reported};
 
 use crate::occurrence::Occurrence;
 use crate::seen::has;

@@ -6,7 +6,7 @@ ghost use Rattle.cd_syntax.specs.PlainTree.{plain_regular};
 ghost use Rattle.cd_variables.specs.Occurrences.{bound as bound_by, bound_in, one};
 ghost use Rattle.cd_variables.specs.FindingVariables.{variable_faults, kind_faults};
 ghost use Rattle.cd_variables.specs.PlainOccurrences.{plain_occurrence};
-ghost use Rattle.cd_resolve.specs.PlainTold.{plain_reported};
+ghost use Rattle.cd_resolve.specs.PlainReported.{plain_reported};
 
 use crate::alternatives::check_union;
 use crate::misplaced::{report_in_declarations, report_in_trees, report_misplaced};

@@ -8,7 +8,7 @@ ghost use Rattle.cd_variables.specs.VariableFaults.{repeats};
 ghost use Rattle.cd_variables.specs.FindingVariables.{regular_faults, regular_kind_faults};
 ghost use Rattle.cd_variables.specs.FindingVariables.{reported_again, reported_of_each};
 ghost use Rattle.cd_variables.specs.PlainOccurrences.{plain_occurrence};
-ghost use Rattle.cd_resolve.specs.PlainTold.{plain_reported};
+ghost use Rattle.cd_resolve.specs.PlainReported.{plain_reported};
 
 use crate::choice::check_choice;
 use crate::occurrence::Occurrence;

@@ -9,7 +9,7 @@ ghost use Rattle.cd_variables.specs.FindingVariables.{variable_faults, kind_faul
 ghost use Rattle.cd_variables.specs.FindingVariables.{row_faults, sign_faults};
 ghost use Rattle.cd_variables.specs.FindingVariables.{field_faults, sides_in};
 ghost use Rattle.cd_variables.specs.PlainOccurrences.{plain_occurrence};
-ghost use Rattle.cd_resolve.specs.PlainTold.{plain_reported};
+ghost use Rattle.cd_resolve.specs.PlainReported.{plain_reported};
 
 use crate::misplaced::report_misplaced;
 use crate::occurrence::Occurrence;

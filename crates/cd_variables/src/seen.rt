@@ -4,7 +4,7 @@ ghost use Rattle.cd_variables.specs.VariableFaults.{repeats};
 ghost use Rattle.cd_variables.specs.FindingVariables.{has_name, names_among, reported_again};
 ghost use Rattle.cd_variables.specs.FindingVariables.{reported_of_each};
 ghost use Rattle.cd_variables.specs.PlainOccurrences.{plain_occurrence};
-ghost use Rattle.cd_resolve.specs.PlainTold.{plain_reported};
+ghost use Rattle.cd_resolve.specs.PlainReported.{plain_reported};
 
 use crate::occurrence::Occurrence;
 use cd_resolve::NameIndex;

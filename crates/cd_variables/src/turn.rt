@@ -6,7 +6,7 @@ ghost use Rattle.cd_variables.specs.Occurrences.{gathered as gathered_ones, gath
 ghost use Rattle.cd_variables.specs.FindingVariables.{names_among, reported_again};
 ghost use Rattle.cd_variables.specs.FindingVariables.{regular_faults, turn_faults};
 ghost use Rattle.cd_variables.specs.PlainOccurrences.{plain_occurrence};
-ghost use Rattle.cd_resolve.specs.PlainTold.{plain_reported};
+ghost use Rattle.cd_resolve.specs.PlainReported.{plain_reported};
 
 use crate::occurrence::Occurrence;
 use crate::regular::check_regular;

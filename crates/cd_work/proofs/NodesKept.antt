@@ -15,9 +15,9 @@ pub grown_keeps : (old new : Graph) → IsGraph old → (more : Graph) × (new �
 grown_keeps old new sound (more, grows) = λ id type stands.
     subst (λ graph. StandsFor graph id type) (sym grows) (stands_kept old more id type sound stands)
 
-pub not_told : (declared : Declarations) (is : Tree) → declared ≡ NoDeclaration
+pub not_reported : (declared : Declarations) (is : Tree) → declared ≡ NoDeclaration
     → ((fault : Fault) → IsFaultOfType NoDeclaration is fault → ⊥) → (fault : NameFault) (name : Name) (at : ℕ)
     → IsReportedError (IsFaultOfType declared is) (error.Fault fault name at) → ⊥
-not_told declared is none sound fault name at reported =
+not_reported declared is none sound fault name at reported =
     sound (record { fault = fault; name = name; at = at })
     (subst (λ list. IsFaultOfType list is (record { fault = fault; name = name; at = at })) none reported.is)

@@ -3,7 +3,7 @@ use Rattle.std.proofs.Common.{◌≡◌, ◌∙◌, List, [], ◌∷◌, ◌++�
 use Rattle.std.specs.Prelude.{codes}
 use Rattle.std.specs.List.{flat_map}
 use Rattle.cd_model.specs.Thing.{Thing}
-use Rattle.cd_model.specs.Canonical.{Text, Part, Other, Piece, Alone, piece_text, pieces_of, Row, row_text, printed, canonical}
+use Rattle.cd_model.specs.Canonical.{Text, Part, Other, Piece, Alone, piece_text, pieces_of, Spine, spine_text, printed, canonical}
 use Rattle.cd_matching.specs.Sequences.{sequence_of}
 use Rattle.cd_work.specs.Workload.{spaced}
 
@@ -14,12 +14,12 @@ pub data AreWritten : List Thing → List Text → Type 0 where
       → AreWritten rest texts → AreWritten (first ∷ rest) (text ∷ texts)
 
 -- what stands along the right of the sequence
-row_is : (things : List Thing) (texts : List Text) → AreWritten things texts
-    → (printed (sequence_of things)).row ≡ record { parts = map Other texts; end = None }
-row_is _ _ nothing = refl
-row_is _ _ (one first text rest texts part are) =
-    ap (λ (part : Part). record { parts = part ∷ (printed (sequence_of rest)).row.parts; end = (printed (sequence_of rest)).row.end }) part
-    ∙ ap (λ (row : Row). record { parts = Other text ∷ row.parts; end = row.end }) (row_is rest texts are)
+spine_is : (things : List Thing) (texts : List Text) → AreWritten things texts
+    → (printed (sequence_of things)).spine ≡ record { parts = map Other texts; end = None }
+spine_is _ _ nothing = refl
+spine_is _ _ (one first text rest texts part are) =
+    ap (λ (part : Part). record { parts = part ∷ (printed (sequence_of rest)).spine.parts; end = (printed (sequence_of rest)).spine.end }) part
+    ∙ ap (λ (spine : Spine). record { parts = Other text ∷ spine.parts; end = spine.end }) (spine_is rest texts are)
 
 -- no piece is a run of characters
 pieces_are : (texts : List Text) → pieces_of (map Other texts) ≡ map Alone texts
@@ -38,8 +38,8 @@ spaces_are text (next ∷ rest) =
     ap (λ more. text ++ more) (append_assoc (codes " ") next others) ∙ sym (append_assoc text (codes " ") (next ++ others))
     ∙ ap (λ more. text ++ codes " " ++ more) (spaces_are next rest)
 
-row_text_is : (text : Text) (texts : List Text) → row_text (Other text ∷ map Other texts) None ≡ codes "[" ++ spaced (text ∷ texts) ++ codes "]"
-row_text_is text texts =
+spine_text_is : (text : Text) (texts : List Text) → spine_text (Other text ∷ map Other texts) None ≡ codes "[" ++ spaced (text ∷ texts) ++ codes "]"
+spine_text_is text texts =
     ap (λ (pieces : List Piece). codes "[" ++ (text ++ flat_map (λ next. codes " " ++ next) (map piece_text pieces)) ++ codes "]") (pieces_are texts)
     ∙ ap (λ texts. codes "[" ++ (text ++ flat_map (λ next. codes " " ++ next) texts) ++ codes "]") (texts_are texts)
     ∙ ap (λ more. codes "[" ++ more ++ codes "]") (spaces_are text texts)
@@ -48,6 +48,6 @@ pub sequence_text_is : (things : List Thing) (texts : List Text) → AreWritten 
     → canonical (sequence_of things) ≡ codes "[" ++ spaced texts ++ codes "]"
 sequence_text_is _ _ nothing = refl
 sequence_text_is _ _ (one first text rest texts part are) =
-    ap (λ (part : Part). row_text (part ∷ (printed (sequence_of rest)).row.parts) (printed (sequence_of rest)).row.end) part
-    ∙ ap (λ (row : Row). row_text (Other text ∷ row.parts) row.end) (row_is rest texts are)
-    ∙ row_text_is text texts
+    ap (λ (part : Part). spine_text (part ∷ (printed (sequence_of rest)).spine.parts) (printed (sequence_of rest)).spine.end) part
+    ∙ ap (λ (spine : Spine). spine_text (Other text ∷ spine.parts) spine.end) (spine_is rest texts are)
+    ∙ spine_text_is text texts

@@ -7,12 +7,12 @@ use Rattle.cd_matching.specs.Pattern as pattern
 use Rattle.cd_matching.specs.Pattern.{Regular, Regulars, NoRegular, ARegular}
 use Rattle.cd_kernel.specs.Automaton.{Move, End, To, same_move, items_in}
 use Rattle.cd_kernel.specs.Inner.PlainMoves.{plain_move, has}
-use Rattle.cd_kernel.specs.declared.moves.Row.{Row as CodeRow}
+use Rattle.cd_kernel.specs.declared.moves.Moves.{Moves as CodeMoves}
 
-abbrev pub plain_row : CodeRow → List Move
+abbrev pub plain_row : CodeMoves → List Move
 plain_row row = map plain_move row.moves.items
 
-abbrev pub plain_rows : List CodeRow → List (List Move)
+abbrev pub plain_rows : List CodeMoves → List (List Move)
 plain_rows = map plain_row
 
 -- a move after others, unless it is among them; and several in turn

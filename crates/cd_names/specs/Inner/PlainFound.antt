@@ -5,7 +5,7 @@ use Rattle.cd_syntax.specs.PlainTree.{plain as plain_tree}
 use Rattle.cd_syntax.specs.TypeTree.{Tree}
 use Rattle.cd_syntax.specs.declared.type_tree.Tree.{Tree as CodeTree}
 use Rattle.cd_names.specs.Inner.FindingInPrograms as walk
-use Rattle.cd_resolve.specs.PlainTold.{plain_reported}
+use Rattle.cd_resolve.specs.PlainReported.{plain_reported}
 use Rattle.cd_names.specs.declared.found.Found.{Found}
 
 abbrev pub plain_trees : List (Bor CodeTree) → List Tree

@@ -1,33 +1,33 @@
 -- What a look at a value tells of its text.
 use Rattle.std.specs.Prelude.{◌≡◌, ◌<◌, ℕ, Bool, true, false, List, [], ◌∷◌, Option, None, Some}
 use Rattle.std.specs.Prelude.{codes}
-use Rattle.cd_model.specs.Canonical.{Text, Part, Letter, Other, Row}
+use Rattle.cd_model.specs.Canonical.{Text, Part, Letter, Other, Spine}
 use Rattle.cd_cells.specs.declared.cell.ValueId.{ValueId}
 use Rattle.cd_cells.specs.declared.values.Values.{Values}
 use Rattle.cd_print.specs.declared.look.Along.{Along}
 use Rattle.cd_print.specs.declared.look.Along.TheVariants as along
-use Rattle.cd_print.specs.declared.row.Form.{Form}
-use Rattle.cd_print.specs.declared.row.Form.TheVariants as form
-use Rattle.cd_print.specs.Inner.Texts.{text_at, row_at}
+use Rattle.cd_print.specs.declared.spine.Form.{Form}
+use Rattle.cd_print.specs.declared.spine.Form.TheVariants as form
+use Rattle.cd_print.specs.Inner.Texts.{text_at, spine_at}
 
 -- a part that is this character, if there is one, and else another value
 abbrev pub part_by : Option ℕ → Text → Part
 part_by (Some c) text = Letter c
 part_by None text = Other text
 
-abbrev pub row_with : Part → Row → Row
-row_with part row = record { parts = part ∷ row.parts; end = row.end }
+abbrev pub spine_with : Part → Spine → Spine
+spine_with part spine = record { parts = part ∷ spine.parts; end = spine.end }
 
 -- how the pairs along the right go on at a value
 abbrev pub GoesOn : Values → ValueId → Along → Type 0
 GoesOn values id (along.Letter c rest) =
-    row_at values id ≡ row_with (Letter c) (row_at values rest)
+    spine_at values id ≡ spine_with (Letter c) (spine_at values rest)
 GoesOn values id (along.Item first rest) =
-    row_at values id ≡ row_with (Other (text_at values first)) (row_at values rest)
-GoesOn values id along.Nil = (row_at values id ≡ record { parts = []; end = None })
+    spine_at values id ≡ spine_with (Other (text_at values first)) (spine_at values rest)
+GoesOn values id along.Nil = (spine_at values id ≡ record { parts = []; end = None })
     × (text_at values id ≡ codes "[]")
 GoesOn values id along.End =
-    row_at values id ≡ record { parts = []; end = Some (text_at values id) }
+    spine_at values id ≡ record { parts = []; end = Some (text_at values id) }
 
 -- they go on by a value with a lower number
 abbrev pub IsLower : Along → ValueId → Type 0

@@ -6,14 +6,14 @@ use Rattle.cd_print.specs.declared.task.Task.{Task}
 use Rattle.cd_print.specs.declared.task.Task.TheVariants.{Value, AfterItem, AfterPart, Close}
 use Rattle.cd_print.specs.declared.task.Task.TheVariants.{Fields, Attributes}
 use Rattle.cd_print.specs.declared.task.Tasks.{Tasks}
-use Rattle.cd_print.specs.Inner.Texts.{text_at, row_at, field_texts_at, after_item, after_part}
+use Rattle.cd_print.specs.Inner.Texts.{text_at, spine_at, field_texts_at, after_item, after_part}
 use Rattle.cd_print.specs.Inner.Texts.{end_text, after_field, attributes_text}
 
 abbrev pub task_text : Values → Task → Text
 task_text values (Value id) = text_at values id
-task_text values (AfterItem id) = after_item (row_at values id).parts
+task_text values (AfterItem id) = after_item (spine_at values id).parts
 task_text values (AfterPart id) =
-    after_part (row_at values id).parts (end_text (row_at values id).end)
+    after_part (spine_at values id).parts (end_text (spine_at values id).end)
 task_text values Close = codes ")"
 task_text values (Fields parts) = after_field (field_texts_at values parts.now)
 task_text values (Attributes parts content) = attributes_text values parts.now content

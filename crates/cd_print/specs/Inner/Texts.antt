@@ -1,7 +1,7 @@
 -- Values of a table as texts, and what is left of such texts.
 use Rattle.std.specs.Prelude.{ℕ, List, [], ◌∷◌, ◌++◌, Option, None, Some, map, codes}
 use Rattle.std.specs.List.{flat_map}
-use Rattle.cd_model.specs.Canonical.{Text, Part, Letter, Row, escaped, joined, part_text}
+use Rattle.cd_model.specs.Canonical.{Text, Part, Letter, Spine, escaped, joined, part_text}
 use Rattle.cd_model.specs.Canonical.{pieces_of, piece_text, printed, canonical, field_texts}
 use Rattle.cd_cells.specs.declared.cell.Part as cell
 use Rattle.cd_cells.specs.declared.cell.ValueId.{ValueId}
@@ -16,8 +16,8 @@ text_at values id = canonical (thing_at (table values) id.0)
 abbrev pub part_at : Values → ValueId → Part
 part_at values id = (printed (thing_at (table values) id.0)).part
 
-abbrev pub row_at : Values → ValueId → Row
-row_at values id = (printed (thing_at (table values) id.0)).row
+abbrev pub spine_at : Values → ValueId → Spine
+spine_at values id = (printed (thing_at (table values) id.0)).spine
 
 -- fields as texts
 abbrev pub field_texts_at : Values → List cell.Part → List Text

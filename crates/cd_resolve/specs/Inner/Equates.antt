@@ -152,7 +152,7 @@ module _ (first : ℕ) (equations : Equations) where
           ((root : NodeId) × IsAt (node number) (Same root) × Equates levels is root)
           × AreEquated levels (number + 1) rest
 
-    -- so do the names of each of these lists
+    -- so do the names of each of these levels
     abbrev pub AllEquated : ScopeLevels → Type 0
     AllEquated [] = Unit {0}
     AllEquated (level ∷ outer) = AreEquated (level ∷ outer) level.first level.declarations

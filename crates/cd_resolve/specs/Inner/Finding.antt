@@ -13,7 +13,7 @@ use Rattle.cd_resolve.specs.declared.fault.NameFault.TheVariants.{Unknown, Twice
 use Rattle.cd_resolve.specs.Faults.{Fault}
 use Rattle.cd_resolve.specs.Inner.BuiltinNames.{is_among, is_builtin}
 
--- a list of declarations that a tree stands under, and its number
+-- a scope level: a list of declarations that a tree stands under, and its number
 pub record ScopeLevel : Type 0 where
   pub declarations : Declarations
   pub list : ℕ
@@ -61,7 +61,7 @@ linked start to at s = record {
       { start = start; to = to; at = at } ∷ [];
 }
 
--- where a name is first declared in a list, and in the innermost list that declares it
+-- where a name is first declared in a list, and at the innermost level that declares it
 abbrev pub place_in : Declarations → Name → Option ℕ
 place_in NoDeclaration name = None
 place_in (ADeclaration other at is rest) name =
@@ -80,7 +80,7 @@ declared_under [] name = None
 declared_under (level ∷ outer) name =
     declared_here_or level.list (place_in level.declarations name) (declared_under outer name)
 
--- a name is met at this place, in the tree of this declared name and under no constructor
+-- a name is met at this byte, in the tree of this declared name and under no constructor
 abbrev pub met : {N : Type 0} → Option Id → Name → ℕ → Option DeclaredAt → State N → State N
 met start name at None s = reported Unknown name at s
 met None name at (Some declared_at) s = s
@@ -102,8 +102,8 @@ labelled seen NoField s = s
 labelled seen (AField label at optional is rest) s = labelled (seen ++ label ∷ []) rest
     (reported_if (is_among seen label) label at s)
 
--- the walk over a tree under these lists. `start` is the declared name that leads to the tree
--- through no constructor, and `keep` is what is kept of a list
+-- the walk over a tree under these scope levels. `start` is the declared name that leads to the
+-- tree through no constructor, and `keep` is what is kept of a list
 abbrev mutual
   pub found_in : {N : Type 0} → (ScopeLevels → N) → ScopeLevels → Option Id → Tree → State N
       → State N

@@ -9,7 +9,7 @@ abbrev pub id_or : Option Meaning → NodeId → NodeId
 id_or None outer = outer
 id_or (Some meaning) outer = meaning.id
 
--- the place, or this one
+-- where it is declared, or this
 abbrev pub declared_at_or : Option Meaning → Option DeclaredAt → Option DeclaredAt
 declared_at_or None outer = outer
 declared_at_or (Some meaning) outer =

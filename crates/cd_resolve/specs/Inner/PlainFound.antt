@@ -3,7 +3,7 @@ use Rattle.std.specs.Prelude.{List, Option, map, length}
 use Rattle.std.specs.Option.{option_map}
 use Rattle.cd_syntax.specs.TypeTree.{Declarations}
 use Rattle.cd_syntax.specs.PlainTree.{plain_declarations}
-use Rattle.cd_resolve.specs.PlainTold.{plain_reported}
+use Rattle.cd_resolve.specs.PlainReported.{plain_reported}
 use Rattle.cd_resolve.specs.Inner.Finding as walk
 use Rattle.cd_resolve.specs.Inner.Finding.{State}
 use Rattle.cd_resolve.specs.declared.scope_level.ScopeLevel.{ScopeLevel}
@@ -41,6 +41,6 @@ plain_found found = record {
   links = map plain_link found.links.items;
 }
 
--- a list that is met when so many others were
+-- the level of a list that is met when so many others were
 abbrev pub list_after : Declarations → State Declarations → walk.ScopeLevel
 list_after declarations s = record { declarations = declarations; list = length s.lists }

@@ -1,4 +1,4 @@
--- The lists of declarations that a tree stands under, and the nodes of the names that it sees.
+-- The scope levels that a tree stands under, and the nodes of the names that it sees.
 use Rattle.std.specs.Prelude.{ℕ, ◌+◌, List, [], ◌∷◌, ◌++◌, map, Option, Some, None}
 use Rattle.std.specs.Option.{unwrap_or}
 use Rattle.cd_sets.specs.declared.node_id.NodeId.{NodeId}
@@ -9,8 +9,8 @@ use Rattle.cd_model.specs.Scope.{Scope}
 use Rattle.cd_resolve.specs.Named.{index_in}
 use Rattle.cd_resolve.specs.Inner.Names.{node_of}
 
--- a list of declarations, and the number of the node of its first name; the nodes of the others
--- follow
+-- a scope level: a list of declarations, and the number of the node of its first name; the nodes of
+-- the others follow
 pub record ScopeLevel : Type 0 where
   pub declarations : Declarations
   pub first : ℕ
@@ -23,7 +23,7 @@ ScopeLevels = List ScopeLevel
 abbrev pub scope_of : Scope → ScopeLevels → Scope
 scope_of base levels = map (λ level. level.declarations) levels ++ base
 
--- the node of a name: of the innermost list that declares it, or the one that it was given. A name
+-- the node of a name: of the innermost level that declares it, or the one that it was given. A name
 -- without a node holds nothing
 abbrev pub declared_or : ℕ → Option ℕ → NodeId → NodeId
 declared_or first (Some index) outer = node (first + index)

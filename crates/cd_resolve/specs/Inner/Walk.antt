@@ -123,14 +123,14 @@ module _ (first : ℕ) where
   abbrev pub one_of : List Regular × Equations → ReadRegular
   one_of all = (Alt (regulars_of all.0), all.1)
 
-  -- a list that is met when so many equations stand there
+  -- the level of a list that is met when so many equations stand there
   abbrev pub level_after : Declarations → Equations → ScopeLevel
   level_after declarations s = record { declarations = declarations; first = first + length s }
 
   -- names that no list declares have these nodes
   module _ (names : List (Name × NodeId)) where
     abbrev mutual
-      -- the walk over a tree under these lists
+      -- the walk over a tree under these levels
       pub walked : ScopeLevels → Tree → Equations → Read
       walked levels (tree span kind) s = walked_kind levels kind s
 
@@ -207,7 +207,7 @@ module _ (first : ℕ) where
       walked_declared levels number (ADeclaration name at is rest) s =
           walked_declared levels (number + 1) rest (settled number (walked levels is s))
 
-    -- the walk over a list of declarations under these lists
+    -- the walk over a list of declarations under these levels
     abbrev pub walked_list : ScopeLevels → Declarations → Equations → Equations
     walked_list levels declarations s =
         walked_declared (level_after declarations s ∷ levels) (length s) declarations

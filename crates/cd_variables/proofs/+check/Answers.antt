@@ -12,7 +12,7 @@ use Rattle.cd_variables.specs.FindingVariables.{reported_if, reported_again, rep
 use Rattle.cd_variables.specs.FindingVariables.{names_among, variable_faults, union_faults}
 use Rattle.cd_variables.specs.FindingVariables.{alternative_faults, choice_faults, other_faults}
 use Rattle.cd_variables.specs.PlainOccurrences.{plain_occurrence}
-use Rattle.cd_resolve.specs.PlainTold.{plain_reported}
+use Rattle.cd_resolve.specs.PlainReported.{plain_reported}
 use Rattle.cd_resolve.proofs.Sizes.{trees_fall, signs_fall, fields_fall, regulars_fall}
 use Rattle.cd_resolve.proofs.Views.{signed_is, field_is, at_item}
 use Rattle.cd_variables.proofs.Views.{tree_begins, regular_starts}

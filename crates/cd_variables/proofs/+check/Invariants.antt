@@ -7,7 +7,7 @@ use Rattle.cd_variables.specs.Occurrences.{gathered_of_all}
 use Rattle.cd_variables.specs.FindingVariables.{row_faults, sign_faults, field_faults, sides_in}
 use Rattle.cd_variables.specs.FindingVariables.{alternative_faults, turn_faults, other_faults}
 use Rattle.cd_variables.specs.PlainOccurrences.{plain_occurrence}
-use Rattle.cd_resolve.specs.PlainTold.{plain_reported}
+use Rattle.cd_resolve.specs.PlainReported.{plain_reported}
 use Rattle.cd_resolve.proofs.Sizes.{size, size_kind, size_trees, size_signs, size_fields, size_regular}
 use Rattle.cd_resolve.proofs.Sizes.{size_regular_kind, size_regulars}
 use Rattle.cd_variables.proofs.+check.Given as goal

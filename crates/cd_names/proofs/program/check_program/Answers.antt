@@ -8,7 +8,7 @@ use Rattle.cd_variables.specs.VariableFaults.{IsOneIn}
 use Rattle.cd_names.specs.Inner.Faults.{IsFaultOfOne, Reports}
 use Rattle.cd_resolve.specs.Least.{first_of}
 use Rattle.cd_names.specs.Inner.PlainFound.{plain_found, plain_trees}
-use Rattle.cd_resolve.specs.PlainTold.{plain_reported}
+use Rattle.cd_resolve.specs.PlainReported.{plain_reported}
 use Rattle.cd_names.proofs.FirstReported.{list_reported}
 use Rattle.cd_names.proofs.FoundMade.{made_program}
 use Rattle.cd_names.proofs.ProgramReported.{program_reported}
@@ -28,9 +28,9 @@ reported_of_all : (c : goal.After-drop-found-3)
 reported_of_all c =
     let program = plain_program c.args.program.now in
     let found = plain_found c.in_ok-found.found in
-    let faults = list_reported (map plain_reported c.as_slice.result.now) c.tell_least.result
-    c.tell_least.ensures.sound c.tell_least.ensures.fault in
-    let one = subst (λ all. Reports (λ f. IsOneIn f (map plain_reported all)) c.tell_least.result)
+    let faults = list_reported (map plain_reported c.as_slice.result.now) c.report_least.result
+    c.report_least.ensures.sound c.report_least.ensures.fault in
+    let one = subst (λ all. Reports (λ f. IsOneIn f (map plain_reported all)) c.report_least.result)
     c.as_slice.ensures.value faults in
     let names = c.in_ok-names.ensures in
     let types = declared_by c.in_ok-names.names in
@@ -43,7 +43,7 @@ reported_of_all c =
     c.as_slice-2.ensures.value trees) in
     let all = program_reported variables_found program found c.in_ok-found.ensures
     c.check_declarations-declared.result
-    c.tell_least.result c.check_trees.result
+    c.report_least.result c.check_trees.result
     (record {
       sound = c.check_declarations-declared.ensures.sound;
       fault =

@@ -1,6 +1,6 @@
 use Rattle.std.proofs.Common.{◌≡◌, map, drop}
 use Rattle.cd_resolve.specs.Inner.Cycles.{cycles_reported}
-use Rattle.cd_resolve.specs.PlainTold.{plain_reported}
+use Rattle.cd_resolve.specs.PlainReported.{plain_reported}
 use Rattle.cd_resolve.specs.Inner.PlainFound.{plain_link}
 use Rattle.cd_resolve.proofs.cycle.report_cycles.Given as goal
 

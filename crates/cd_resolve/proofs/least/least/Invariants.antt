@@ -1,7 +1,7 @@
 use Rattle.std.proofs.Common.{◌≡◌, map, drop, None}
 use Rattle.std.specs.Option.{option_map}
 use Rattle.cd_resolve.specs.Least.{least_from}
-use Rattle.cd_resolve.specs.PlainTold.{plain_reported}
+use Rattle.cd_resolve.specs.PlainReported.{plain_reported}
 use Rattle.cd_resolve.proofs.least.least.Given as goal
 
 -- to go on from here gives what the whole gives from the start

@@ -2,7 +2,7 @@ use Rattle.std.proofs.Common.{map, ap, sym, ◌∙◌, rules}
 use Rattle.cd_syntax.specs.TypeTree.{signs_of, fields_of, declarations_of}
 use Rattle.cd_syntax.specs.PlainTree.{plain_signed, plain_field, plain_declaration}
 use Rattle.cd_variables.specs.FindingMisplaced.{misplaced_in_signs, misplaced_in_fields, misplaced_in_declarations}
-use Rattle.cd_resolve.specs.PlainTold.{plain_reported}
+use Rattle.cd_resolve.specs.PlainReported.{plain_reported}
 use Rattle.cd_resolve.proofs.Sizes.{below, trees_fall, signs_fall, fields_fall, declarations_fall, regulars_fall}
 use Rattle.cd_resolve.proofs.Views.{signed_is, field_is, declaration_is, at_item}
 use Rattle.cd_variables.proofs.misplaced.+misplaced.Goals as goal

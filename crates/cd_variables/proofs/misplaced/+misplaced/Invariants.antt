@@ -5,7 +5,7 @@ use Rattle.cd_syntax.specs.PlainTree.{plain_fields, plain_declaration, plain_dec
 use Rattle.cd_syntax.specs.PlainTree.{plain_regular_kind, plain_regulars}
 use Rattle.cd_variables.specs.FindingMisplaced.{misplaced_in_trees, misplaced_in_signs, misplaced_in_fields}
 use Rattle.cd_variables.specs.FindingMisplaced.{misplaced_in_declarations, misplaced_in_regulars}
-use Rattle.cd_resolve.specs.PlainTold.{plain_reported}
+use Rattle.cd_resolve.specs.PlainReported.{plain_reported}
 use Rattle.cd_resolve.proofs.Sizes.{size, size_kind, size_trees, size_signs, size_fields, size_declarations}
 use Rattle.cd_resolve.proofs.Sizes.{size_regular, size_regular_kind, size_regulars}
 use Rattle.cd_variables.proofs.misplaced.+misplaced.Given as goal

@@ -1,7 +1,7 @@
 use Rattle.std.proofs.Common.{◌≡◌, map, drop}
 use Rattle.cd_variables.specs.FindingVariables.{reported_again}
 use Rattle.cd_variables.specs.PlainOccurrences.{plain_occurrence}
-use Rattle.cd_resolve.specs.PlainTold.{plain_reported}
+use Rattle.cd_resolve.specs.PlainReported.{plain_reported}
 use Rattle.cd_variables.proofs.seen.report_again.Given as goal
 
 -- to go on from here gives what the whole gives from the start
