@@ -76,7 +76,8 @@ fn next_alike(
     ensures goes { let set = leads.second in
         IfOk result (λ next. IfSome next (λ second. (count : ℕ)
         → GoesTo (names values.now) (nodes graph.now) (maps_at maps.now) (table values.now)
-        asker.old asker.new (after_alike id set first count) (after_alike second set first (suc count)))) }
+        asker.old asker.new (after_alike id set first count)
+        (after_alike second set first (suc count)))) }
     ensures right { KnowsOf (nodes graph.now) (names values.now) asker.new }
     ensures grows { Grows asker.old asker.new }
 {
@@ -111,7 +112,8 @@ fn next_letter(
     ensures within { IfSome result (λ second. second.0 < length (table values.now)) }
     ensures goes { let set = leads.second in IfSome result (λ second. (count : ℕ)
         → GoesTo (names values.now) (nodes graph.now) (maps_at maps.now) (table values.now)
-        asker.now asker.now (after_alike id set first count) (after_alike second set first (suc count))) }
+        asker.now asker.now (after_alike id set first count)
+        (after_alike second set first (suc count))) }
 {
     let Look::Pair(one, second) = values.look(id) else {
         return None;

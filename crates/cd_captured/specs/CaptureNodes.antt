@@ -1,5 +1,5 @@
--- Nodes of a graph that are made for a variable: one for the place where a table begins, and one for
--- each place whose things the variable gathers.
+-- Nodes of a graph that are made for a variable: one for the place where a table begins, and one
+-- for each place whose things the variable gathers.
 use Rattle.std.specs.Prelude.{◌≡◌, ◌++◌, ℕ, List, Some}
 use Rattle.std.specs.List.{slice_get}
 use Rattle.cd_sets.specs.declared.node_id.NodeId.{NodeId}

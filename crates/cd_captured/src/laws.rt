@@ -36,8 +36,8 @@ pub fn the_first_place_is_accepted()
         → IsPlace graph kernel (first_place kernel matched (place_of kernel.nodes first)) }
 {}
 
-/// Where all elements of a place are taken and the place is settled, all elements of each place that
-/// its steps lead to are taken.
+/// Where all elements of a place are taken and the place is settled, all elements of each place
+/// that its steps lead to are taken.
 pub fn next_places_are_accepted()
     ensures { (graph : Graph) (kernel : Kernel NodeId) (first : ℕ) (entry : Place × List Step)
         → IsAcceptedFrom graph kernel first → IsAcceptedPlace graph kernel entry.0
@@ -96,7 +96,8 @@ pub fn parts_are_accepted()
 /// The nodes that accept the nodes of a kernel are nodes of the graph.
 pub fn accepting_nodes_are_there()
     ensures { (graph : Graph) (kernel : Kernel NodeId) (first number : ℕ)
-        → IsAcceptedFrom graph kernel first → (place_of kernel.nodes first number).0 < length graph }
+        → IsAcceptedFrom graph kernel first
+        → (place_of kernel.nodes first number).0 < length graph }
 {}
 
 /// What is explored in a graph is explored in each longer one.

@@ -33,7 +33,8 @@ fn number<'k>(
 ) -> Result<(), AllocError>
     ensures { IfOk result (λ _. (more : List CodeStep)
         × (steps.new.items ≡ steps.old.items ++ more)
-        × AreNumbered (plain_places places.old) (plain_places places.new) more (steps_of lead.entry)) }
+        × AreNumbered (plain_places places.old) (plain_places places.new) more
+        (steps_of lead.entry)) }
 {
     match lead {
         Lead::Takes(variable) => steps.push(Step::Takes(variable))?,

@@ -59,7 +59,8 @@ pub(crate) fn check_bodies(
         (IsAfter base.now locals.now (graph_of world.old) (graph_of world.new)) }
     ensures least { IfOk result (λ results. BodiesLeast (scope_of base.now) (graph_of world.old)
         (seen_by base.now locals.now) (graph_of world.new)
-        (plain_branches branches.now) (elements_of (graph_of world.old) division.now.matched) results.items) }
+        (plain_branches branches.now) (elements_of (graph_of world.old) division.now.matched)
+        results.items) }
     ensures fault { IfErr result (BranchesFail base.now (graph_of world.old) locals.now
         (table_of world.new) division.now.matched limit (plain_branches branches.now)) }
 {
@@ -104,7 +105,8 @@ pub(crate) fn check_body(
         (elements_of (graph_of world.old) coming.entry.matched) (coming_pattern coming.entry)
         (plain body.now)) }
     ensures fault { IfErr result (BodyFails base.now (graph_of world.old) locals.now
-        (table_of world.new) coming.entry.matched limit (coming_pattern coming.entry) (plain body.now)) }
+        (table_of world.new) coming.entry.matched limit (coming_pattern coming.entry)
+        (plain body.now)) }
 {
     let site = &coming.sited.site;
     match taken(world, coming.matched, site)? {

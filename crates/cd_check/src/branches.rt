@@ -141,7 +141,8 @@ pub(crate) fn check_let(
         (plain value.now) }
     requires rest { IsSound (declarations_of base.now)
         (names_of (plain_tree pattern.now) ++ names_seen base.now locals.now) (plain rest.now) }
-    ensures gives { IfOk result (KindGives base.now (graph_of world.old) locals.now (graph_of world.new)
+    ensures gives { IfOk result (KindGives base.now (graph_of world.old) locals.now
+        (graph_of world.new)
         (Let (plain_tree pattern.now) (plain value.now) (plain rest.now))) }
     ensures after { OnOk result
         (IsAfter base.now locals.now (graph_of world.old) (graph_of world.new)) }

@@ -27,7 +27,8 @@ use cd_sets::node_id::NodeId;
 use cd_syntax::name::Name;
 use cd_typing::rule::Rule;
 
-/// A function that is applied to one argument after the other. The application stands at this place.
+/// A function that is applied to one argument after the other. The application stands at this
+/// place.
 #[cycle(check)]
 pub(crate) fn check_apply(
     base: &Base<'_, '_>,
@@ -153,8 +154,8 @@ pub(crate) fn check_chain(
     check_tails(base, world, locals, id, tails, first.span.from, at)
 }
 
-// Operators, one after the other. The first operand stands at the first place, and what they give at
-// the second one.
+// Operators, one after the other. The first operand stands at the first place, and what they give
+// at the second one.
 #[cycle(check)]
 fn check_tails(
     base: &Base<'_, '_>,

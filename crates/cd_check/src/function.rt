@@ -89,8 +89,8 @@ pub(crate) fn check_promise(
     Ok(())
 }
 
-// Checks branches for an arrow: they take each argument, and their bodies are within the result. The
-// function stands at this place.
+// Checks branches for an arrow: they take each argument, and their bodies are within the result.
+// The function stands at this place.
 #[cycle(check)]
 fn check_arrow(
     base: &Base<'_, '_>,

@@ -45,7 +45,8 @@ pub(crate) fn check_if(
         (plain then_one.now) }
     requires else_one { IsSound (declarations_of base.now) (names_seen base.now locals.now)
         (plain else_one.now) }
-    ensures gives { IfOk result (KindGives base.now (graph_of world.old) locals.now (graph_of world.new)
+    ensures gives { IfOk result (KindGives base.now (graph_of world.old) locals.now
+        (graph_of world.new)
         (If (plain condition.now) (plain then_one.now) (plain else_one.now))) }
     ensures after { OnOk result
         (IsAfter base.now locals.now (graph_of world.old) (graph_of world.new)) }

@@ -40,7 +40,8 @@ pub(crate) fn bind(
     requires label { IsLabel name.now }
     requires labels { HaveLabels (names values.old) bindings.old.items }
     ensures bound { OnOk result (all_named (names values.new) bindings.new.items
-        ≡ all_named (names values.old) bindings.old.items ++ numbered variables.now (name.now ∷ [])) }
+        ≡ all_named (names values.old) bindings.old.items
+        ++ numbered variables.now (name.now ∷ [])) }
     ensures labels { OnOk result (HaveLabels (names values.new) bindings.new.items) }
     ensures grows { Grows values.old values.new }
 {

@@ -38,7 +38,8 @@ pub(crate) fn take(
     ensures parts { OnOk result (ArePartsOf values.new parts.new.items) }
     ensures graph { tests.new.graph ≡ tests.old.graph }
     ensures maps { tests.new.maps ≡ tests.old.maps }
-    ensures knows { OnOk result (KnowsOf (nodes tests.new.graph) (names values.new) tests.new.asker) }
+    ensures knows { OnOk result (KnowsOf (nodes tests.new.graph) (names values.new)
+        tests.new.asker) }
     ensures grows { Grows values.old values.new }
 {
     if taker.take(&code.kernel, tests, values, id)? {

@@ -12,8 +12,8 @@ pub(crate) enum Request<'a> {
     Sub(&'a str, &'a str),
     /// The same, with the type declarations of the file of this name, which comes first.
     SubTypes(&'a str, &'a str, &'a str),
-    /// Whether the value of a document is in a type, with the type declarations of a file: the names
-    /// of the file and of the document, and the type text.
+    /// Whether the value of a document is in a type, with the type declarations of a file: the
+    /// names of the file and of the document, and the type text.
     Member(&'a str, &'a str, &'a str),
     /// Whether the program of the file of this name is well typed.
     Check(&'a str),

@@ -22,7 +22,8 @@ pub(crate) struct Spine {
 /// What stands along the right of an element.
 pub(crate) fn spine_of(elements: &Elements, id: ElementId) -> Result<Spine, AllocError>
     ensures { IfOk result (λ spine.
-        spine_in (table elements.now) spine ≡ (printed (element_at (table elements.now) id)).spine) }
+        spine_in (table elements.now) spine
+        ≡ (printed (element_at (table elements.now) id)).spine) }
 {
     let mut firsts = Vec::new(elements.allocator());
     let mut next = id;

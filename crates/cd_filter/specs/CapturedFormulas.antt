@@ -1,5 +1,5 @@
--- The formula of a node for a variable: the union of a formula for each step that gives the variable
--- something at a place that is reached.
+-- The formula of a node for a variable: the union of a formula for each step that gives the
+-- variable something at a place that is reached.
 use Rattle.std.specs.Prelude.{◌≡◌, ◌↔◌, ℕ, true, List, map}
 use Rattle.cd_sets.specs.declared.node_id.NodeId.{NodeId}
 use Rattle.cd_model.specs.AllOf.{AllOf, AnyOf}

@@ -54,7 +54,8 @@ module _ (scope : Scope) where
   Breaks types e needed is at reported d = (reported ≡ is) × Misses scope types e needed at d
 
   -- the one operand or the other is reported
-  abbrev pub BreaksOne : Types → (first second : Expr) → (needed : Set) → (is : Rule) → (at : ℕ) → Rule
+  abbrev pub BreaksOne : Types → (first second : Expr) → (needed : Set) → (is : Rule) → (at : ℕ)
+      → Rule
       → Thing → Type 0
   BreaksOne types first second needed is at reported d =
       Breaks types first needed is at reported d ⊎ Breaks types second needed is at reported d
@@ -65,8 +66,10 @@ module _ (scope : Scope) where
 
   -- what the function may be applied to
   abbrev pub IsAccepted : Types → Expr → Set
-  IsAccepted types f d = (s : Typ) × (argument : Typ) × (result : Typ) × IsType s × Has scope types f s
-      × IsType argument × IsType result × AllMapInto (In s) (In argument) (In result) × In argument d
+  IsAccepted types f d = (s : Typ) × (argument : Typ) × (result : Typ) × IsType s
+      × Has scope types f s
+      × IsType argument × IsType result × AllMapInto (In s) (In argument) (In result)
+      × In argument d
 
   -- the function is one, and the argument is none of those that it accepts
   abbrev pub ArgumentFault : Types → (f e : Expr) → (at : ℕ) → Rule → Thing → Type 0
@@ -154,7 +157,8 @@ module _ (scope : Scope) where
         ⊎ (HasSome scope types value
         × (IsUncovered scope here (ABranch pattern rest NoBranch)
         (Least scope types value) at reported d
-        ⊎ ((e : Thing) × (captures : Captures Name) × IsFirst scope [] pattern (Least scope types value) e captures
+        ⊎ ((e : Thing) × (captures : Captures Name)
+        × IsFirst scope [] pattern (Least scope types value) e captures
         × (own : Types) × AreCaptured scope own [] pattern (Least scope types value)
         × Fault (own ++ types) rest at reported d)))
     KindFault types here (If condition then_one else_one) at reported d =

@@ -63,8 +63,8 @@ module _ (scope : Scope) (types : Types) where
   IsSideLeast tested value e None = tested value → ⊥
   IsSideLeast tested value e (Some r) = tested value × IsLeast scope types e r
 
-  -- The type of what one more argument gives, or one more operator, where what stands before has the
-  -- type `self`: it is within what they give for any wider type
+  -- The type of what one more argument gives, or one more operator, where what stands before has
+  -- the type `self`: it is within what they give for any wider type
   abbrev pub IsArgumentLeast : (self : Typ) → Expr → (result : Typ) → Type 0
   IsArgumentLeast self e result = (wider s r : Typ) → In self ⊆ In wider → IsType s
       → Has scope types e s → AllMapInto (In wider) (In s) (In r) → In result ⊆ In r

@@ -22,7 +22,8 @@ pub fn faults_are_refused()
         → ProgramFault program at reported d → IsTyped program → ⊥ }
 {}
 
-/// `x x` is at fault where `x` may be something else than a function, and `10 div x` where it may be 0.
+/// `x x` is at fault where `x` may be something else than a function, and `10 div x` where it may
+/// be 0.
 pub fn examples_with_faults()
     ensures function { (scope : Scope) (types : Types) (d : Thing) → IsElement d
         → (may : XMayBe types d) → IsType may.0 → (IsFunction d → ⊥)

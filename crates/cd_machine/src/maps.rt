@@ -49,8 +49,8 @@ pub(crate) fn map<'p>(
     Ok(map_on(code, values, environments, branches, env, none, id)?)
 }
 
-/// The next item of the sequence, after this result of the last one: results that are done, and items
-/// that are left.
+/// The next item of the sequence, after this result of the last one: results that are done, and
+/// items that are left.
 pub(crate) fn map_next<'p>(
     code: &mut Code<'p>,
     values: &mut Values,

@@ -127,7 +127,8 @@ pub(crate) fn next_argument<'p>(
     function: ValueId,
 ) -> Turn<'p>
     requires { function.0 < length (table values.now) }
-    ensures next { Comes values.now env result (λ e. called_turn (exprs_of (map plain arguments.now))
+    ensures next { Comes values.now env result
+        (λ e. called_turn (exprs_of (map plain arguments.now))
         e (thing_at (table values.now) function.0)) }
     ensures within { IsWithin values.now env result }
 {

@@ -19,8 +19,8 @@ use cd_cells::{ValueId, Values};
 use cd_code::Code;
 use std::alloc::{AllocError, Global};
 
-/// Runs a program: applies its function `main` to a document, with so many units. The code is of the
-/// names of the table.
+/// Runs a program: applies its function `main` to a document, with so many units. The code is of
+/// the names of the table.
 ///
 /// # Errors
 ///

@@ -50,8 +50,8 @@ pub(crate) fn sift<'p>(
     Ok(sift_on(code, values, environments, branches, env, none, id)?)
 }
 
-/// The next item of the sequence, after this result of the last one: results that are done, and items
-/// that are left.
+/// The next item of the sequence, after this result of the last one: results that are done, and
+/// items that are left.
 pub(crate) fn sift_next<'p>(
     code: &mut Code<'p>,
     values: &mut Values,

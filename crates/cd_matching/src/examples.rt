@@ -36,9 +36,11 @@ pub fn kernel_examples()
         ≡ captured (codes "x") (takes example.greedy one_to_three) }
     ensures second { captured (codes "y") (kernel_captures example.greedy_kernel one_to_three)
         ≡ captured (codes "y") (takes example.greedy one_to_three) }
-    ensures empty_first { captured (codes "x") (kernel_captures example.greedy_kernel (sequence_of []))
+    ensures empty_first { captured (codes "x")
+        (kernel_captures example.greedy_kernel (sequence_of []))
         ≡ captured (codes "x") (takes example.greedy (sequence_of [])) }
-    ensures empty_second { captured (codes "y") (kernel_captures example.greedy_kernel (sequence_of []))
+    ensures empty_second { captured (codes "y")
+        (kernel_captures example.greedy_kernel (sequence_of []))
         ≡ captured (codes "y") (takes example.greedy (sequence_of [])) }
     ensures not_taken { kernel_captures example.greedy_kernel one_true_two
         ≡ takes example.greedy one_true_two }

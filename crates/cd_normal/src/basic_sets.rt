@@ -163,7 +163,8 @@ fn characters_of_both(alloc: Global, one: &CharSet, other: &CharSet) -> Result<C
 // The characters of the one set that are not of the other.
 fn characters_without(alloc: Global, one: &CharSet, other: &CharSet) -> Result<CharSet, AllocError>
     ensures { IfOk result (λ set. (c : ℕ) → IsScalar c
-        → holds_character set c ≡ (holds_character one.now c && not (holds_character other.now c))) }
+        → holds_character set c
+        ≡ (holds_character one.now c && not (holds_character other.now c))) }
 {
     if one.is_empty() {
         return Ok(CharSet::empty(alloc));

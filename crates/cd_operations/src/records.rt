@@ -114,7 +114,8 @@ pub(crate) fn merged(
 fn parts_at(values: &Values, id: ValueId) -> &[Part]
     requires { id.0 < length (table values.now) }
     ensures record { AreOfRecord values.now result.now }
-    ensures fields { fields_by values.now result.now ≡ fields_of (thing_at (table values.now) id.0) }
+    ensures fields { fields_by values.now result.now
+        ≡ fields_of (thing_at (table values.now) id.0) }
 {
     values.knows();
     match values.look(id) {

@@ -32,7 +32,8 @@ use std::alloc::{AllocError, Global};
 ///
 /// # Errors
 ///
-/// The first operand that is refused, with its rule and an element that shows it; or want of memory.
+/// The first operand that is refused, with its rule and an element that shows it; or want of
+/// memory.
 pub fn operate(
     alloc: Global,
     world: &mut World,

@@ -67,7 +67,8 @@ pub fn take_field(
     requires records { records.0 < length (graph_of world.old) }
     requires label { IsLabel label.now }
     ensures have { OnOk result (elements_of (graph_of world.old) records ⊆ HasFieldAt label.now) }
-    ensures gives { IfOk result (λ id. IsFieldOf label.now (elements_of (graph_of world.old) records)
+    ensures gives { IfOk result (λ id. IsFieldOf label.now
+        (elements_of (graph_of world.old) records)
         ⊆ elements_of (graph_of world.new) id) }
     ensures only { IfOk result (λ id. elements_of (graph_of world.new) id
         ⊆ IsFieldOf label.now (elements_of (graph_of world.old) records)) }

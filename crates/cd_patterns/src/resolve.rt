@@ -56,7 +56,8 @@ pub fn resolve_pattern(
     requires named { AreNamed (nodes graph.now) (plain_names names.now) }
     requires sound { (fault : Fault)
         → IsFaultOfType (declared_by names.now) (plain_tree pattern.now) fault → ⊥ }
-    requires variables { IsNamed (pattern_of (declared_by names.now ∷ []) (plain_tree pattern.now)) }
+    requires variables { IsNamed (pattern_of (declared_by names.now ∷ [])
+        (plain_tree pattern.now)) }
     ensures formulas { IfOk result (λ batch.
         AllOf (IsFormula (length (nodes graph.now) + length (plain_list batch.formulas)))
         (plain_list batch.formulas)) }

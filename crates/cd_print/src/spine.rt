@@ -25,7 +25,8 @@ pub(crate) enum Form {
 
 /// How the pairs along the right of a value are written.
 pub(crate) fn form_of(values: &Values, id: ValueId) -> Form
-    ensures { let spine = spine_at values.now id in result ≡ form_of (others spine.parts) spine.end }
+    ensures { let spine = spine_at values.now id in result
+        ≡ form_of (others spine.parts) spine.end }
 {
     let mut next = id;
     let mut letters = true;

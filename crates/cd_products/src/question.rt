@@ -13,9 +13,9 @@ use cd_sets::question::Question;
 use std::alloc::{AllocError, Global};
 
 /// A formula that holds just what is in each node of `pos` and in none of `neg`. Where one of those
-/// nodes is seen to hold no thing with parts, it has one set of integers, of characters and of atoms
-/// at most, so that it does not grow with what it is made from; else it is made of copies of their
-/// formulas.
+/// nodes is seen to hold no thing with parts, it has one set of integers, of characters and of
+/// atoms at most, so that it does not grow with what it is made from; else it is made of copies of
+/// their formulas.
 ///
 /// # Errors
 ///

@@ -48,7 +48,8 @@ fn choices_by<'r>(
     requires some { AllOf (AsksNodes (length (graph_of world.old))) (plain_questions some.now) }
     requires first { ChoiceAsks (length (graph_of world.old)) (plain_choice first) }
     ensures choices { IfOk result (λ choices. AreChoices (graph_of world.old)
-        (plain_questions some.now) (plain_choice first.entry ∷ []) (map plain_choice choices.items)) }
+        (plain_questions some.now) (plain_choice first.entry ∷ [])
+        (map plain_choice choices.items)) }
     ensures after { IsAfter world.old world.new }
 {
     let mut choices = vec![in alloc; first]?;

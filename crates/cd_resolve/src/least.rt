@@ -16,8 +16,8 @@ use crate::reported::Reported;
 use cd_syntax::name::Name;
 use std::alloc::{AllocError, Global};
 
-/// Reports the least of these faults: the one with the least place, and at one place the first in the
-/// order of `NameFault`.
+/// Reports the least of these faults: the one with the least place, and at one place the first in
+/// the order of `NameFault`.
 pub fn report_least(alloc: Global, faults: &[Reported<'_>]) -> Result<(), NameError>
     ensures sound { OnOk result (least_from None (map plain_reported faults.now) ≡ None) }
     ensures fault { IfErr result

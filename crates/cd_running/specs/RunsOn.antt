@@ -13,8 +13,8 @@ pub record IsRun (program : Program) (main : FunctionTree) (v : Thing) (units : 
   pub safe : IsSafeOn program main v
   pub comes : ComesTo program main v units result
 
--- what is found of a program on a value, with so many units: that it does not take it, or what a run
--- comes to, and that each run on it is safe
+-- what is found of a program on a value, with so many units: that it does not take it, or what a
+-- run comes to, and that each run on it is safe
 abbrev pub RunsOn : Program → Thing → (units : ℕ) → Option Result → Type 0
 RunsOn program v units None = (main : FunctionTree) → IsMain program main → IsNoInput program main v
 RunsOn program v units (Some result) = (main : FunctionTree) → IsMain program main

@@ -75,7 +75,8 @@ fn takes(
     values: &Values,
     value: ValueId,
 ) -> Result<bool, AllocError>
-    requires sound { AllOf (IsSoundSignature (declared_by names.now)) (plain_interface interface.now) }
+    requires sound { AllOf (IsSoundSignature (declared_by names.now))
+        (plain_interface interface.now) }
     requires names_sound { (fault : Fault) → IsFaultOfDeclarations (declared_by names.now) fault
         → ⊥ }
     requires named { AreNamed (graph_of world.old) (plain_names names.now) }

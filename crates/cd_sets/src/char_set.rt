@@ -114,7 +114,8 @@ impl CharSet {
         Some(bounds(interval))
     }
 
-    /// Some character of the set, if there is one: `a` is preferred, which each notation shows as it is.
+    /// Some character of the set, if there is one: `a` is preferred, which each notation shows as
+    /// it is.
     pub fn some_member(&self) -> Option<char>
         ensures { MatchOption result (HoldsNoCharacter self.now)
             (λ c. holds_character self.now c ≡ true) }

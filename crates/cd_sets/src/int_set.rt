@@ -109,7 +109,8 @@ impl IntSet {
             .map(|interval| (interval.low, interval.high))
     }
 
-    /// Some integer of the set, if there is one. Short ones are preferred: 0, or the bound next to it.
+    /// Some integer of the set, if there is one. Short ones are preferred: 0, or the bound next to
+    /// it.
     pub fn some_member(&self) -> Option<i128>
         ensures { MatchOption result (HoldsNothing self.now) (λ z. holds self.now z ≡ true) }
     {

@@ -59,7 +59,8 @@ fn look_by(
     node: usize,
     found: &KernelNode,
 ) -> Result<Next, AllocError>
-    requires is { slice_get (plain_nodes kernel.now.nodes.items) node ≡ Some (plain_node found.now) }
+    requires is { slice_get (plain_nodes kernel.now.nodes.items) node
+        ≡ Some (plain_node found.now) }
     requires kernel { IsKernelOf tests.old kernel.now }
     requires value { value.0 < length (table values.old) }
     requires within { IsWithin (length (table values.old)) taker.old }

@@ -18,8 +18,8 @@ mod query;
 mod runs;
 
 /// What is said of the workload of this size, at most 100,000: how many units a run of its program
-/// on the document of so many entries takes, how many bytes the text of the result has, and how many
-/// of as many queries are answered with yes.
+/// on the document of so many entries takes, how many bytes the text of the result has, and how
+/// many of as many queries are answered with yes.
 ///
 /// # Errors
 ///

@@ -1,4 +1,5 @@
--- Formulas that are made for what is wanted, where nodes are known by their numbers among the wants.
+-- Formulas that are made for what is wanted, where nodes are known by their numbers among the
+-- wants.
 use Rattle.std.specs.Prelude.{◌≡◌, ◌+◌, ℕ, List, [], ◌∷◌, length, Option, Some}
 use Rattle.std.specs.Prelude.{None, codes}
 use Rattle.std.specs.List.{slice_get, All, AllZip, Contains}

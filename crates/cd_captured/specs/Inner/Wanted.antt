@@ -16,7 +16,8 @@ module _ (wants : List Want) where
   AreOnce = (one other : ℕ) (want : Want) → slice_get wants one ≡ Some want
       → slice_get wants other ≡ Some want → one ≡ other
 
-  -- what each of so many variables captures at the first place is wanted under the variable's number
+  -- what each of so many variables captures at the first place is wanted under the variable's
+  -- number
   abbrev pub AreFirst : (variables : ℕ) → Type 0
   AreFirst variables = (variable : ℕ) → variable < variables
       → slice_get wants variable ≡ Some (Captures variable 0)

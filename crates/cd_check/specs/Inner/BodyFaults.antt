@@ -32,7 +32,8 @@ module _ (scope : Scope) where
       Breaks scope types e (elements_of graph limit.node) limit.rule at reported d
 
   -- of a body that some element is the first to come to, or what it owes
-  abbrev pub BodyFault : Types → Tree → (matched : Set) → Owed scope → Expr → (at : ℕ) → Rule → Thing
+  abbrev pub BodyFault : Types → Tree → (matched : Set) → Owed scope → Expr → (at : ℕ) → Rule
+      → Thing
       → Type 0
   BodyFault types pattern matched owed body at reported d = (e : Thing) × (captures : Captures Name)
       × IsFirst scope [] pattern matched e captures × (own : Types)

@@ -18,7 +18,8 @@ pub record NarrowsOn {A : Type 0} (have : Types → (self : Typ) → A → Typ �
     (nodes : Nodes) (start : Typ) (graph : Graph) (all left : A) (id : NodeId) : Type 0 where
   pub narrows : (types : Types) → AreOfTypes old nodes types → (wider : Typ) → IsType wider
       → In start ⊆ In wider → (t : Typ) → have types wider all t
-      → (middle : Typ) × IsType middle × (elements_of graph id ⊆ In middle) × have types middle left t
+      → (middle : Typ) × IsType middle × (elements_of graph id ⊆ In middle)
+      × have types middle left t
 
 -- What stands before what is left is an expression whose least type is this node; a fault of what
 -- is left is one of the whole, which starts with the expression `f`

@@ -46,7 +46,8 @@ module _ (graph : Graph) (scope : Scope) where
       × IsSited coming.sited.now × (next : NodeId)
       × Leaves scope (coming_pattern coming) (elements_of graph matched) (elements_of graph next)
       × Come next comings rest
-      × LeavesNoMore scope (coming_pattern coming) (elements_of graph matched) (elements_of graph next)
+      × LeavesNoMore scope (coming_pattern coming) (elements_of graph matched)
+      (elements_of graph next)
 
   abbrev pub IsDivision : Division → Type 0
   IsDivision division = Come division.matched division.comings.items division.rest

@@ -45,7 +45,8 @@ AreNodes graph ids = AllOf (λ id. id.0 < length graph) ids
 abbrev pub AreNodesOf : Graph → Nodes → Type 0
 AreNodesOf graph nodes = AllOf (λ node. node.1.0 < length graph) nodes
 
--- in the new graph the node is a type with this fact, whatever types the nodes of the old one are of
+-- in the new graph the node is a type with this fact, whatever types the nodes of the old one are
+-- of
 pub record Gives (old : Graph) (nodes : Nodes) (new : Graph) (fact : Types → Typ → Type 0)
     (id : NodeId) : Type 0 where
   pub is_type : IsType (typ new id)

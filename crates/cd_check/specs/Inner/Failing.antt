@@ -111,7 +111,8 @@ module _ (base : Base) (old : Graph) (locals : Nodes) (table : List Thing) where
       (λ types at reported d. FunctionFault (scope_of base) types f at reported d)
 
 -- a node that has to be within a limit, if there is one
-abbrev pub IsBeyond : Graph → List Thing → (id : NodeId) → Option Limit → (at : ℕ) → CheckError → Type 0
+abbrev pub IsBeyond : Graph → List Thing → (id : NodeId) → Option Limit → (at : ℕ) → CheckError
+    → Type 0
 IsBeyond graph table id None at = Reports table (λ place reported d. ⊥)
 IsBeyond graph table id (Some limit) at =
     IsOutside graph table id limit.node at limit.rule

@@ -43,7 +43,8 @@ module _ (base : Base) (old : Graph) (locals : Nodes) (new : Graph) where
   -- one item more, or none
   abbrev pub ItemLeast : Item → Option NodeId → Type 0
   ItemLeast item found = (rest : Items)
-      → Steps (λ types all parts. AreLeast (scope_of base) types (ItemsHave (scope_of base)) all parts)
+      → Steps (λ types all parts. AreLeast (scope_of base) types
+      (ItemsHave (scope_of base)) all parts)
       old (seen_by base locals) new (AnItem item rest) rest (listed found)
 
   -- what comes of functions of a type for an argument, and of an operand for an operator

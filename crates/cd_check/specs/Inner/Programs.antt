@@ -58,7 +58,8 @@ FunctionsFail base graph table promised =
     AnyOf (λ one. FunctionFault (scope_of base) types (function_of one) at reported d) promised)
 
 -- a result of one of the arrows, which is no data, is reported here
-abbrev pub ResultsFault : Graph → (here : ℕ) → List (NodeId × NodeId) → (at : ℕ) → Rule → Thing → Type 0
+abbrev pub ResultsFault : Graph → (here : ℕ) → List (NodeId × NodeId) → (at : ℕ) → Rule → Thing
+    → Type 0
 ResultsFault graph here arrows at reported d = (at ≡ here) × (reported ≡ rule.MainResult)
     × IsElement d
     × (elements_of graph DATA d → ⊥) × AnyOf (λ arrow. elements_of graph arrow.1 d) arrows

@@ -22,7 +22,8 @@ arrows_in graph arrows = map (arrow_in graph) arrows
 
 -- the nodes are of the graph
 abbrev pub ArePairs : Graph → List (NodeId × NodeId) → Type 0
-ArePairs graph arrows = AllOf (λ arrow. (arrow.0.0 < length graph) × (arrow.1.0 < length graph)) arrows
+ArePairs graph arrows = AllOf (λ arrow. (arrow.0.0 < length graph) × (arrow.1.0 < length graph))
+    arrows
 
 -- the arrows of an interface, and what is in all of them
 pub record IsPromise (scope : Scope) (graph : Graph) (interface : List Signature)

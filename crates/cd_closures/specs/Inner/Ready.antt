@@ -27,7 +27,8 @@ pub record Begins (graph longer : Graph) (asked : List Asked) : Type 0 where
 
 -- Of functions, of which some are left before and after, a table that was right is right of those
 -- that were added since
-abbrev pub AddsFunctions : (longer : Graph) → Names → List Asked → (before after : List FunctionTree)
+abbrev pub AddsFunctions : (longer : Graph) → Names → List Asked
+    → (before after : List FunctionTree)
     → (old new : Mappings) → Type 0
 AddsFunctions longer names asked before after old new = (graph : Graph) (all : List FunctionTree)
     → Begins graph longer asked

@@ -12,7 +12,8 @@ use Rattle.cd_closures.specs.declared.asked.Asked.{Asked}
 
 -- a function that is not listed has no entries
 abbrev pub UnlistedHaveNone : Mappings → Type 0
-UnlistedHaveNone maps = (function : ℕ) → is_listed maps function ≡ false → HasNone (Some function) maps
+UnlistedHaveNone maps = (function : ℕ) → is_listed maps function ≡ false
+    → HasNone (Some function) maps
 
 module _ (graph : Graph) (scope : Scope) (asked : List Asked) where
   -- the table is right of the function at a place

@@ -9,7 +9,8 @@ use crate::constants::branches::walk_function;
 use cd_program::program::Program;
 
 /// The constants of a program are elements, and the characters in its sequences are of Unicode: a
-/// number of the code has 128 bits, a character is a scalar value, and a text is of such characters.
+/// number of the code has 128 bits, a character is a scalar value, and a text is of such
+/// characters.
 pub fn constants_are_elements(program: &Program)
     requires { IsWellMadeProgram (plain_program program.now) }
     ensures { AllOf (KindsOfFunction InRange) (plain_program program.now).functions }

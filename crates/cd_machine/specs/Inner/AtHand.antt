@@ -48,7 +48,8 @@ module _ (code : Code) where
     pub goes : GoesByUnit code last top turn
 
 -- the turn is the one that the machine comes to from what an expression is, wherever that stands
-pub record KindComes (code : CodeOf) (values : Values) (environments : List (List Part)) (kind : Kind)
+pub record KindComes (code : CodeOf) (values : Values) (environments : List (List Part))
+    (kind : Kind)
     (env : EnvId) (turn : TurnOf) : Type 0 where
   pub takes : turn.takes ≡ true
   pub reaches : (span : Span) → ReachesUnit (code_in code) (expr span kind)

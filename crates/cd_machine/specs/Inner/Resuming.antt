@@ -71,8 +71,8 @@ tails_turn (ATail (Without label) rest) env v =
 tails_turn (ATail (Select label) rest) env v =
     paid (give_to (Tailing rest env ∷ []) (selected label v))
 
--- The body of a branch, in the environment that it sees, for these frames; and where no branch takes
--- the value, an outcome for others
+-- The body of a branch, in the environment that it sees, for these frames; and where no branch
+-- takes the value, an outcome for others
 abbrev pub Entry : Type 0
 Entry = Expr × Env
 

@@ -53,8 +53,8 @@ abbrev pub Leads : evaluation.Code → machine.Control → List machine.Frame �
 Leads code control stack control' stack' = (depth units : ℕ)
     → Keeps code (calls code depth) (state control units stack) (state control' units stack')
 
--- The turn from what is at hand and what waits for it, of which the rest still waits. Where it takes
--- a unit, others that take none may come before it
+-- The turn from what is at hand and what waits for it, of which the rest still waits. Where it
+-- takes a unit, others that take none may come before it
 pub record Turns (code : Code) (values : Values) (environments : List (List Part))
     (control : machine.Control) (stack : List machine.Frame) (rest : List Frame) (turn : Turn)
     : Type 0 where

@@ -42,7 +42,8 @@ module _ (code : Code) (control : Control) (top : List Frame) (turn : Turn) wher
   -- with no unit, it has less to do then
   pub record GoesFreely : Type 0 where
     pub keeps : (depth units : ℕ) (below : List Frame)
-        → Keeps code (calls code depth) (state control units (top ++ below)) (after turn units below)
+        → Keeps code (calls code depth) (state control units (top ++ below))
+        (after turn units below)
     pub falls : (units : ℕ) (below : List Frame)
         → measure (after turn units below) < measure (state control units (top ++ below))
 

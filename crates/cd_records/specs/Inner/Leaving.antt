@@ -1,5 +1,5 @@
--- What is left of a row where a label goes. Its other questions need values at labels of no cell, so
--- where the label has no cell, the value that goes may be one that some of them had.
+-- What is left of a row where a label goes. Its other questions need values at labels of no cell,
+-- so where the label has no cell, the value that goes may be one that some of them had.
 use Rattle.std.specs.Prelude.{◌≡◌, ◌⊎◌, ℕ, true, List, [], ◌∷◌, ◌++◌, map, bytes_eq, if◌then◌else◌}
 use Rattle.cd_sets.specs.declared.question.Question.{Question}
 use Rattle.cd_syntax.specs.Name.{Name}

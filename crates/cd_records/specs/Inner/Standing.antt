@@ -97,8 +97,8 @@ module _ (graph : Graph) where
           ↔ holds (reader (longer more) (thing.Record fields)) f true
       pub sound : IsFormula (length graph + length batch) f
 
-  -- a formula holds the records of another one that have a value for each of some questions at names
-  -- without entries
+  -- a formula holds the records of another one that have a value for each of some questions at
+  -- names without entries
   abbrev pub IsMeet : (old new : List Formula) → List (Name × Entry) → Formula
       → (left : List Question) → Formula → Type 0
   IsMeet old new entries one left f = (every : List Question)

@@ -8,7 +8,8 @@ use Rattle.cd_program.specs.Expr.{Signature}
 use Rattle.cd_running.specs.Inner.Inputs.{AnswersAsArguments, IsSoundSignature}
 
 -- what is answered of those that are left is so of all
-pub record AreLeft (types : Declarations) (scope : Scope) (document : Thing) (all left : List Signature)
+pub record AreLeft (types : Declarations) (scope : Scope) (document : Thing)
+    (all left : List Signature)
     : Type 0 where
   pub sound : AllOf (IsSoundSignature types) left
   pub yes : AnswersAsArguments scope document left true

@@ -49,4 +49,5 @@ pub record TestsStay (old new : Tests) (values after : Values) : Type 0 where
 
 -- the kernel is sound over the graph
 abbrev pub IsKernelOf : Tests → Kernel → Type 0
-IsKernelOf tests kernel = IsSound (λ type. type.0 < length (nodes tests.graph)) (plain_kernel kernel)
+IsKernelOf tests kernel = IsSound (λ type. type.0 < length (nodes tests.graph))
+    (plain_kernel kernel)

@@ -46,7 +46,8 @@ abbrev pub only_zero : Expr
 only_zero = expr_from 143 146 (code.Sequence (code.items_of (code.One (value_at 0 144) ∷ [])))
 
 abbrev pub entry_branches : Branches
-entry_branches = branches_of (branch entry_pattern first_number ∷ branch (any_at 138) only_zero ∷ [])
+entry_branches =
+    branches_of (branch entry_pattern first_number ∷ branch (any_at 138) only_zero ∷ [])
 
 -- the body of `main`, and its interface
 abbrev pub body : Expr
