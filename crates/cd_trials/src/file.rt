@@ -1,5 +1,6 @@
 //! A file of data: what may be in it, and how its rows are put and counted.
 use crate::place::place_differs;
+use crate::printed::printed_differs;
 use crate::program::{accepted_differs, refused_differs};
 use crate::question::{apart_differs, within_differs};
 use crate::row::row_differs;
@@ -10,13 +11,14 @@ use std::io;
 use toml::Table;
 
 // The members of a file, of a row, of questions, of a place and of a run, with their types.
-const FILE: [(&str, &str); 6] = [
+const FILE: [(&str, &str); 7] = [
     ("row", "array"),
     ("questions", "array"),
     ("places", "array"),
     ("accepted", "array"),
     ("refused", "array"),
     ("runs", "array"),
+    ("documents", "array"),
 ];
 
 const ROW: [(&str, &str); 9] = [
@@ -32,6 +34,8 @@ const ROW: [(&str, &str); 9] = [
 ];
 
 const QUESTIONS: [(&str, &str); 3] = [("types", "string"), ("within", "array"), ("apart", "array")];
+
+const DOCUMENTS: [(&str, &str); 2] = [("printed", "array"), ("canonical", "array")];
 
 const PLACE: [(&str, &str); 4] = [
     ("text", "string"),
@@ -68,7 +72,8 @@ impl Tally {
     }
 }
 
-/// Puts the rows of a file, the pairs of its questions, its places, its runs, and its programs.
+/// Puts the rows of a file, the pairs of its questions, its places, its runs, its documents, and its
+/// programs.
 pub(crate) fn put_file(
     rt: &(impl Print + AllocGlobal),
     name: &str,
@@ -96,6 +101,11 @@ pub(crate) fn put_file(
         check(row, &RUN)?;
         tally.count(rt, name, run_differs(rt.alloc(), row)?)?;
     }
+    for documents in list(file.get("documents")) {
+        let documents = documents.as_table().context("documents are no table")?;
+        check(documents, &DOCUMENTS)?;
+        put_documents(rt, name, documents, tally)?;
+    }
     put_programs(rt, name, file, tally)
 }
 
@@ -113,6 +123,25 @@ fn put_programs(
     for refused in list(file.get("refused")) {
         let (program, said) = pair(refused);
         tally.count(rt, name, refused_differs(rt.alloc(), program, said)?)?;
+    }
+    Ok(())
+}
+
+// Puts the documents whose values are printed.
+fn put_documents(
+    rt: &(impl Print + AllocGlobal),
+    name: &str,
+    documents: &Table,
+    tally: &mut Tally,
+) -> io::Result<()> {
+    for document in list(documents.get("printed")) {
+        let (document, printed) = pair(document);
+        tally.count(rt, name, printed_differs(rt.alloc(), document, printed)?)?;
+        tally.count(rt, name, printed_differs(rt.alloc(), printed, printed)?)?;
+    }
+    for document in list(documents.get("canonical")) {
+        let document = text(Some(document));
+        tally.count(rt, name, printed_differs(rt.alloc(), document, document)?)?;
     }
     Ok(())
 }

@@ -29,12 +29,14 @@
 //! that is right. Programs of `accepted` should be that by `check`, and of `refused` the texts are a
 //! program and what is said of it, after the name of its file. A row of `runs` has a `program`, a
 //! `document` and the `units` that are just enough: with them it ends with `out`, with an exception
-//! that is `raised`, or by `overflow`, and with one less they are spent.
+//! that is `raised`, or by `overflow`, and with one less they are spent. Of `documents`, a pair of
+//! `printed` is a text and the canonical text of its value, and one of `canonical` is its own.
 #![tactic(auto)]
 
 mod answer;
 mod file;
 mod place;
+mod printed;
 mod program;
 mod question;
 mod row;

@@ -1,3 +1,0 @@
-mod SoundBranches
-mod KernelsMade
-mod Leaving
