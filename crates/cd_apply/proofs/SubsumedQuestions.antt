@@ -1,4 +1,4 @@
--- What the tests on questions that ask no less say.
+-- What the tests on questions that others subsume say.
 use Rattle.std.proofs.Common.{◌≡◌, ◌==◌, ◌||◌, ◌&&◌, Bool, true, false, List, [], ◌∷◌, inl, inr}
 use Rattle.std.proofs.Common.{refl, sym}
 use Rattle.std.proofs.lemmas.Bool.{eqb-true, true≢false}
@@ -9,7 +9,7 @@ use Rattle.cd_sets.specs.declared.question.Question.{Question}
 use Rattle.cd_sets.proofs.Members.{id_from_number}
 use Rattle.cd_model.specs.AllOf.{AllOf, AnyOf}
 use Rattle.cd_rules.specs.Family.{IsSubsumedBy}
-use Rattle.cd_apply.specs.Inner.Subsuming.{asks_no_less}
+use Rattle.cd_apply.specs.Inner.Subsuming.{is_subsumed_by}
 
 -- both are so, and one of two is
 both_true : (a b : Bool) → a && b ≡ true → (a ≡ true) × (b ≡ true)
@@ -39,12 +39,12 @@ held ids id is = one_shown (λ other. other.0 == id.0) (λ other. other ≡ id)
     (λ other same. id_from_number other id (eqb-true other.0 id.0 same)) ids is
 
 pub is_subsuming : (question : Question) (others : List Question)
-    → list_any (asks_no_less question) others ≡ true → AnyOf (IsSubsumedBy question) others
+    → list_any (is_subsumed_by question) others ≡ true → AnyOf (IsSubsumedBy question) others
 is_subsuming question others is =
-    one_shown (asks_no_less question) (IsSubsumedBy question) no_less others is
+    one_shown (is_subsumed_by question) (IsSubsumedBy question) by_one others is
   where
-    no_less : (other : Question) → asks_no_less question other ≡ true → IsSubsumedBy question other
-    no_less other is =
+    by_one : (other : Question) → is_subsumed_by question other ≡ true → IsSubsumedBy question other
+    by_one other is =
         let both = both_true (list_all (holds question.pos) other.pos)
         (list_all (holds question.neg) other.neg) is in (
           all_shown (holds question.pos) (λ id. AnyOf (λ one. one ≡ id) question.pos)

@@ -133,7 +133,7 @@ module _ (graph : Graph) where
           subst (λ (b : Bool). IsSeenToAdd graph arguments results questions b) not_new there arrows
           to one
 
-  -- what a question holds that asks no less than one of some questions is in one of these
+  -- what a question holds that one of some questions subsumes is in one of these
   pub in_subsuming : (results : Question) (questions : List Question)
       → AnyOf (IsSubsumedBy results) questions → (e : Thing) → IsInQuestion graph results e
       → IsInOne graph questions e

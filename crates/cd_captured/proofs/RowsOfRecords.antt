@@ -77,7 +77,7 @@ module _ (answers : Thing → Answers NodeId) where
         (λ row. InRow answers fields named (asked_fields named row))
         (λ row in_it. in_fields fields named row in_it present) rows (cover fields sort inside))
 
-    -- a living row has a record with any thing at a label that it asks for there
+    -- a row whose questions have witnesses has a record with any thing at a label that it asks for there
     abbrev pub PickRecords : Type 0
     PickRecords = (row : Row) (label : Name) (d : Thing) → RowHasWitnesses answers Sort row
         → IsLabel label → Sort d → asked (answers d) (asked_at row label) true

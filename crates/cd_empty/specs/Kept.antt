@@ -32,7 +32,7 @@ witnesses_in table ((question, Inhabited id) ∷ kept) =
 abbrev pub witnesses : Decider → List Witness
 witnesses decider = witnesses_in (table decider) (kept decider)
 
--- a verdict tells an element of the table
+-- a verdict has an element of the table
 abbrev pub IsNamed : List Thing → Verdict → Type 0
 IsNamed table Empty = Unit {0}
 IsNamed table (Inhabited id) = Names table id

@@ -30,7 +30,7 @@ impl<'t> Found<'t> {
         }
     }
 
-    /// Tells a fault of a name.
+    /// Reports a fault of a name.
     pub(crate) fn report(
         &mut self,
         fault: NameFault,
@@ -75,7 +75,7 @@ impl<'t> Found<'t> {
         self.report(NameFault::Unknown, name, at)
     }
 
-    /// Tells that no function `main` is declared.
+    /// Reports that no function `main` is declared.
     pub(crate) fn report_no_main(&mut self, at: usize) -> Result<(), AllocError>
         ensures { IfOk result (λ _.
             plain_found self.new ≡ reported NoMain [] at (plain_found self.old)) }

@@ -96,7 +96,7 @@ fn declare<'t>(
     found.report_twice(again, name, function.name_at)
 }
 
-// Tells where no function `main` is declared, at the end of the program.
+// Reports where no function `main` is declared, at the end of the program.
 fn look_for_main<'t>(
     alloc: Global,
     functions: &NameIndex<'_>,

@@ -13,7 +13,7 @@ use cd_program::expr::{FieldExpr, FieldExprs};
 use cd_resolve::NameIndex;
 use std::alloc::{AllocError, Global};
 
-/// Tells the labels that stand twice, and walks over the fields in turn.
+/// Reports the labels that stand twice, and walks over the fields in turn.
 #[cycle(walk)]
 pub(crate) fn walk_record<'t>(
     base: &Base<'_, 't>,
@@ -63,7 +63,7 @@ fn walk_field<'t>(
     walk(base, &field.expr, locals, found)
 }
 
-// Tells the labels that stand twice.
+// Reports the labels that stand twice.
 fn report_labels<'t>(
     alloc: Global,
     fields: &'t FieldExprs,

@@ -15,7 +15,7 @@ use cd_resolve::{Names, check_tree};
 use cd_syntax::type_tree::Tree;
 use std::alloc::Global;
 
-/// Tells the least fault of the types in trees that see declared names.
+/// Reports the least fault of the types in trees that see declared names.
 pub(crate) fn check_trees(
     alloc: Global,
     names: &Names<'_>,

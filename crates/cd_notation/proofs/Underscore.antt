@@ -22,7 +22,7 @@ underscore_text = refl
 abbrev one : List ℕ
 one = 95 ∷ []
 
--- bytes and characters tell alike whether a word is `_`
+-- bytes and characters say alike whether a word is `_`
 same_test : (text : List ℕ) → IsUtf8 text → bytes_eq (chars text) (codes "_") ≡ bytes_eq text one
 same_test text utf8 =
     let by_characters = bytes_eq-Decides (chars text) (codes "_") in

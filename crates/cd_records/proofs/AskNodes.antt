@@ -171,7 +171,7 @@ module _ (graph : Graph) where
       (choices_ask (some_of row) (first_choice row ∷ []) choices
       (some_ask (length graph) row asks) ((asks.every, tt), tt) are)))
 
-  -- the labels of a living row
+  -- the labels of a row whose questions have witnesses
   pub row_has_labels : (row : Row) → RowHasWitnesses (in_node graph) IsElement row
       → AllOf IsLabel (labels_in row.cells)
   row_has_labels row witnesses = each_of_map (λ cell. cell.0) IsLabel row.cells witnesses.labels

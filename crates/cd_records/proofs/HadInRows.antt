@@ -1,4 +1,4 @@
--- What some record of a living row has at a label is what the row says there.
+-- What some record of a row whose questions have witnesses has at a label is what the row says there.
 use Rattle.std.proofs.Common.{◌≡◌, Bool, true, false, List, [], ◌∷◌, Option, Some, None, ◌⊎◌, inl, inr}
 use Rattle.std.proofs.Common.{refl, sym, ap, subst, ◌∙◌, bytes_eq, if◌then◌else◌}
 use Rattle.cd_sets.specs.declared.question.Question.{Question}

@@ -131,7 +131,7 @@ no_cells (row ∷ rows) name none = (
   no_cells rows name (λ one. none (inr one)),
 )
 
--- labels of living rows
+-- labels of rows whose questions have witnesses
 pub labels_with_witnesses : (graph : Graph) (rows : List Row)
     → AllOf (RowHasWitnesses (in_node graph) IsElement) rows
     → AllOf (λ row. AllOf IsLabel (labels_in row.cells)) rows

@@ -40,7 +40,7 @@ fn complaint(status: Status, text: String) -> Message
     }
 }
 
-/// The line that tells how the program is used.
+/// The line that says how the program is used.
 ///
 /// # Errors
 ///
@@ -174,8 +174,8 @@ fn at_place(
     Ok(complaint(status, reported))
 }
 
-/// What is said of a program that has no types: the place of what does not meet a rule, the rule, and
-/// the text of an element that shows it.
+/// What is said of a program that has no types: the place of what does not meet a rule, the rule,
+/// and the text of an element that shows it.
 ///
 /// # Errors
 ///

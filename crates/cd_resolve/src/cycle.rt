@@ -112,7 +112,7 @@ fn leads_back<'t>(
     is_cyclic(alloc, links, id)
 }
 
-/// Tells the names that lead back to themselves.
+/// Reports the names that lead back to themselves.
 pub(crate) fn report_cycles<'t>(
     alloc: Global,
     links: &[Link<'t>],
@@ -131,7 +131,7 @@ pub(crate) fn report_cycles<'t>(
     Ok(())
 }
 
-// Tells the name that a link leads to, if it leads back to itself.
+// Reports the name that a link leads to, if it leads back to itself.
 fn report_cycle<'t>(
     found: bool,
     link: &Link<'t>,

@@ -54,7 +54,7 @@ impl<'t> Found<'t> {
         }
     }
 
-    /// Tells a fault.
+    /// Reports a fault.
     pub(crate) fn report(
         &mut self,
         fault: NameFault,

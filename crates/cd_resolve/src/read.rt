@@ -191,7 +191,7 @@ fn walk_type<'t>(
     Ok((root, found))
 }
 
-// Tells the least fault of what is found.
+// Reports the least fault of what is found.
 fn reported(alloc: Global, found: Found<'_>) -> Result<(), NameError>
     ensures sound { OnOk result (least_from None (all_faults (plain_found found.entry)) ≡ None) }
     ensures fault { IfErr result

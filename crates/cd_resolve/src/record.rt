@@ -76,7 +76,7 @@ fn walk_fields<'t>(
     Ok(made)
 }
 
-// Tells the labels that stand twice.
+// Reports the labels that stand twice.
 fn report_labels<'t>(
     alloc: Global,
     fields: &'t FieldTrees,

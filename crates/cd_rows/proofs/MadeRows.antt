@@ -33,7 +33,7 @@ use Rattle.cd_rows.specs.Inner.Refining.{needed, less_row, rows_of_clause}
 use Rattle.cd_rows.specs.Inner.Refining.{rows_of_clauses}
 use Rattle.cd_rows.proofs.ClausesOfRecords.{rows_only, rows_hold}
 use Rattle.cd_rows.proofs.FirstRows.{first_labels}
-use Rattle.cd_rows.proofs.RowsWithWitnesses.{SomeInEvery, less_some_in_every, row_lives, none_dropped}
+use Rattle.cd_rows.proofs.RowsWithWitnesses.{SomeInEvery, less_some_in_every, row_has_witnesses, none_dropped}
 use Rattle.cd_rows.proofs.RowsWithWitnesses.{field_decided, at_labels}
 use Rattle.cd_rows.proofs.OwnLabels.{have_own, have_labels}
 use Rattle.cd_rows.proofs.RefinedRows.{HasThese, less_these, clause_has, clause_passes}
@@ -76,7 +76,7 @@ module _ (answers : Thing → Answers) (Sort : Thing → Type 0) (test : List Qu
         → AllOf (IsMade labels) rows → AllOf (RowHasWitnesses answers Sort) rows
     live [] each made = tt
     live (row ∷ rows) each made =
-        let has = row_lives answers Sort row (keeps (needed row) each.0) in (
+        let has = row_has_witnesses answers Sort row (keeps (needed row) each.0) in (
           record {
             cells = has.0;
             some = has.1;

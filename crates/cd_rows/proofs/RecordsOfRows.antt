@@ -1,5 +1,5 @@
--- A living row has a record, and one with any element at a label that is in what the row asks
--- there.
+-- A row whose questions have witnesses has a record, and one with any element at a label that is in
+-- what the row asks there.
 use Rattle.std.proofs.Common.{◌≡◌, ℕ, suc, ◌<◌, ◌≤◌, Bool, true, false, true≢false, List, [], ◌∷◌}
 use Rattle.std.proofs.Common.{length, Option, Some, None, ◌⊎◌, inl, inr, refl, sym, ◌∙◌, ap, subst}
 use Rattle.std.proofs.Common.{bytes_eq, if◌then◌else◌, arith}

@@ -1,5 +1,5 @@
--- A row lives where each question that it needs has a thing, and a record in a row shows that each
--- of these has one.
+-- The questions of a row have witnesses where each that it needs has a thing, and a record in a row
+-- shows that each of these has one.
 use Rattle.std.proofs.Common.{◌≡◌, Bool, true, false, true≢false, if◌then◌else◌, List, [], ◌∷◌}
 use Rattle.std.proofs.Common.{◌++◌, Option, Some, None, ◌⊎◌, inl, inr, refl, sym, ◌∙◌}
 use Rattle.std.proofs.Common.{bytes_eq, map}
@@ -52,24 +52,24 @@ module _ (answers : Thing → Answers) (Sort : Thing → Type 0) where
   Has = IsInhabited answers Sort
 
   -- the cells that may not be absent have things
-  abbrev Lives : Name × Cell → Type 0
-  Lives cell = (cell.1.absent ≡ true) ⊎ Has cell.1.value
+  abbrev HasOne : Name × Cell → Type 0
+  HasOne cell = (cell.1.absent ≡ true) ⊎ Has cell.1.value
 
-  cells_live : (cells : List (Name × Cell)) → AllOf Has (present cells) → AllOf Lives cells
-  cells_live [] each = tt
-  cells_live (cell ∷ cells) each = by_test cell.1.absent refl (cells_live cells) each
+  cells_have_witnesses : (cells : List (Name × Cell)) → AllOf Has (present cells) → AllOf HasOne cells
+  cells_have_witnesses [] each = tt
+  cells_have_witnesses (cell ∷ cells) each = by_test cell.1.absent refl (cells_have_witnesses cells) each
     where
       by_test : (b : Bool) → cell.1.absent ≡ b
-          → (AllOf Has (present cells) → AllOf Lives cells)
+          → (AllOf Has (present cells) → AllOf HasOne cells)
           → AllOf Has (if b then present cells else cell.1.value ∷ present cells)
-          → AllOf Lives (cell ∷ cells)
+          → AllOf HasOne (cell ∷ cells)
       by_test true is further each = (inl is, further each)
       by_test false is further each = (inr each.0, further each.1)
 
-  pub row_lives : (row : Row) → AllOf Has (needed row)
-      → AllOf Lives row.cells × AllOf Has row.some
-  row_lives row each = let both = all_split Has (present row.cells) row.some each in
-      (cells_live row.cells both.0, both.1)
+  pub row_has_witnesses : (row : Row) → AllOf Has (needed row)
+      → AllOf HasOne row.cells × AllOf Has row.some
+  row_has_witnesses row each = let both = all_split Has (present row.cells) row.some each in
+      (cells_have_witnesses row.cells both.0, both.1)
 
   -- a thing of a question of `some` is in `every`
   abbrev pub SomeInEvery : Row → Type 0

@@ -7,14 +7,15 @@ ghost use Rattle.cd_rules.specs.InRow.{thing_at};
 ghost use Rattle.cd_rules.specs.Rows.{Row};
 ghost use Rattle.cd_rows.specs.RecordRows.{InRecordRow, RowHasWitnesses, asked_at};
 
-/// A living row has a record.
+/// A row whose questions have witnesses has a record.
 pub fn rows_are_inhabited()
     ensures { (graph : Graph) (row : Row) → RowHasWitnesses (in_node graph) IsElement row
         → (fields : Fields) × IsElement (Record fields)
         × InRecordRow (in_node graph) fields row }
 {}
 
-/// A living row has a record with any element at a label that is in what the row asks there.
+/// A row whose questions have witnesses has a record with any element at a label that is in what
+/// the row asks there.
 pub fn rows_pick()
     ensures { (graph : Graph) (row : Row) (label : Name) (e : Thing)
         → RowHasWitnesses (in_node graph) IsElement row → IsLabel label → IsElement e

@@ -54,7 +54,7 @@ fn has_record(world: &mut World, row: &Row) -> Result<bool, AllocError>
         (λ answer. IsTested (graph_of world.old) (needed (plain_row row.now)) answer) }
     ensures after { IsAfter world.old world.new }
 {
-    if cells_live(world, row.fields.as_slice())? {
+    if cells_have_witnesses(world, row.fields.as_slice())? {
         are_inhabited(world, row.some.items())
     } else {
         Ok(false)
@@ -62,7 +62,7 @@ fn has_record(world: &mut World, row: &Row) -> Result<bool, AllocError>
 }
 
 // Whether each cell may be absent or has an element.
-fn cells_live(world: &mut World, cells: &[(Name, FieldCell)]) -> Result<bool, AllocError>
+fn cells_have_witnesses(world: &mut World, cells: &[(Name, FieldCell)]) -> Result<bool, AllocError>
     requires { AllOf (AsksNodes (length (graph_of world.old))) (present (plain_cells cells.now)) }
     ensures tested { IfOk result
         (λ answer. IsTested (graph_of world.old) (present (plain_cells cells.now)) answer) }
@@ -72,11 +72,11 @@ fn cells_live(world: &mut World, cells: &[(Name, FieldCell)]) -> Result<bool, Al
         [] => Ok(true),
         [cell, rest @ ..] => {
             if cell.1.absent {
-                cells_live(world, rest)
+                cells_have_witnesses(world, rest)
             } else {
                 match world.decide(&cell.1.value)? {
                     Verdict::Empty => Ok(false),
-                    Verdict::Inhabited(_) => cells_live(world, rest),
+                    Verdict::Inhabited(_) => cells_have_witnesses(world, rest),
                 }
             }
         }

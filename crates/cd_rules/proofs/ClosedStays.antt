@@ -21,7 +21,7 @@ pub conjuncts_kept : (graph more : Graph) (question : Question) → AsksNodes (l
 conjuncts_kept graph more question below =
     ap₂ joined (at_kept graph more question.pos true below.0) (at_kept graph more question.neg false below.1)
 
--- by recursion on a front of the family
+-- by recursion on a prefix of the family
 each_stays : (graph more : Graph) (family questions : List Question) → AllOf (AsksNodes (length graph)) questions
     → AllOf (λ question. (clause : Clause) → IsClauseOfQuestion graph question clause → Refutes family clause) questions
     → AllOf (λ question. (clause : Clause) → IsClauseOfQuestion (graph ++ more) question clause → Refutes family clause) questions

@@ -1,4 +1,4 @@
--- A clause of records is broken where a tree of cases shows that each row has a covered question.
+-- A clause of records is broken where a tree of cases shows that each row has a question that is subsumed.
 use Rattle.std.proofs.Common.{◌≡◌, ◌&&◌, ◌++◌, Bool, true, false, not, List, [], ◌∷◌, map, inl, inr, Some, None, refl, sym, subst}
 use Rattle.std.proofs.Common.{bytes_eq, if◌then◌else◌}
 use Rattle.std.specs.List.{list_all}

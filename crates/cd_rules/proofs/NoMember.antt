@@ -71,7 +71,7 @@ module _ (graph : Graph) (begins : (more : Graph) × (graph ≡ built_ins ++ mor
 module _ (graph : Graph) (begins : (more : Graph) × (graph ≡ built_ins ++ more)) (family : List Question)
     (is_closed : IsClosed graph family) where
   -- A thing in a question of the family meets a conjunct whose clauses are all refuted. So where
-  -- there are none such, it is in no question of the family, and in none that asks no less
+  -- there are none such, it is in no question of the family, and in none that is subsumed by one
   refuted_of : (reader : Reader) → Apart (at_nodes graph reader) → (IsRefuted family reader → ⊥) → AskedOut family (at_nodes graph reader)
   refuted_of reader apart out question is subsumed = of_subsumed IsNotAsked family question
       (λ other asks none is. none (asked_less (at_nodes graph reader) question other asks is))

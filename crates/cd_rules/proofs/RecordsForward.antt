@@ -40,7 +40,7 @@ module _ (labelled : Labelled) (Fact : Question → Type 0) (has : (label : Name
   abbrev answers_at : Name → Answers
   answers_at label = answers_of label (has label)
 
-  -- a field that the record is right at is so where the record is told by its labels
+  -- a field that the record is right at is so where the record is given by its labels
   says_so : (label : Name) (field : Field) (answer : Bool) (there : HasAt labelled Fact label) → there ≡ has label
       → labelled label field answer → Says answers_at (at_label label there) field answer
   says_so label field answer (HasNothing free) same is = free field answer is
@@ -55,8 +55,8 @@ module _ (labelled : Labelled) (Fact : Question → Type 0) (has : (label : Name
       inr (asking cell.value (subst (λ there. asked (answers_of label there) cell.value true) (sym same) is))
 
   -- a row that the record is in lives
-  row_lives : (row : Row) → IsInRow answers_at at row → HasWitnesses Fact row
-  row_lives row is = (
+  row_has_witnesses : (row : Row) → IsInRow answers_at at row → HasWitnesses Fact row
+  row_has_witnesses row is = (
     each_weaker (λ cell. IsInCell answers_at (at cell.0) cell.1) (λ cell. (cell.1.absent ≡ true) ⊎ Fact cell.1.value)
         (λ cell here. cell_lives cell.0 cell.1 (has cell.0) refl here) row.cells is.0,
     each_weaker (HasElsewhere answers_at at row) Fact
@@ -75,22 +75,22 @@ pub records_forward : (labelled : Labelled) (Fact : Question → Type 0) → ((l
     → AllOf (λ type. record_reader labelled (formula.Record type.named type.rest) false) refused
     → AnyOf (HasWitnesses Fact) (rows_of wanted refused)
 records_forward labelled Fact has wanted refused inside outside =
-    one_weaker (IsInRow told at_labels) (HasWitnesses Fact) (row_lives labelled Fact has) (rows_of wanted refused)
-    ((rows_exact told at_labels wanted refused).0 (
+    one_weaker (IsInRow given at_labels) (HasWitnesses Fact) (row_has_witnesses labelled Fact has) (rows_of wanted refused)
+    ((rows_exact given at_labels wanted refused).0 (
       each_weaker (λ type. record_reader labelled (formula.Record type.named type.rest) true)
-          (λ type. record_reader (labelled_by told at_labels) (formula.Record type.named type.rest) true)
+          (λ type. record_reader (labelled_by given at_labels) (formula.Record type.named type.rest) true)
           (λ type is label. so label (field_of type.named type.rest label) true (is label)) wanted inside,
       each_weaker (λ type. record_reader labelled (formula.Record type.named type.rest) false)
-          (λ type. record_reader (labelled_by told at_labels) (formula.Record type.named type.rest) false)
+          (λ type. record_reader (labelled_by given at_labels) (formula.Record type.named type.rest) false)
           (λ type is. (is.0, so is.0 (field_of type.named type.rest is.0) false is.1)) refused outside,
     ))
   where
-    told : Name → Answers
-    told = answers_at labelled Fact has
+    given : Name → Answers
+    given = answers_at labelled Fact has
 
     at_labels : Name → Option Name
     at_labels = at labelled Fact has
 
     so : (label : Name) (field : Field) (answer : Bool) → labelled label field answer
-        → Says told (at_labels label) field answer
+        → Says given (at_labels label) field answer
     so label field answer is = says_so labelled Fact has label field answer (has label) refl is

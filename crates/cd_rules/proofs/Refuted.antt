@@ -34,7 +34,7 @@ refuted_one family reader (conjunct ∷ conjuncts) (inr later) refutes =
     refuted_one family reader conjuncts later (λ clause is. refutes clause (inr is))
 
 module _ (family : List Question) where
-  -- a question that the family does not cover
+  -- a question that the family does not subsume
   abbrev pub IsOut : Question → Type 0
   IsOut question = IsSubsumed question family → ⊥
 

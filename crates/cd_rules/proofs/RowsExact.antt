@@ -47,7 +47,7 @@ one_or_none (name ∷ names) label = by_name (cases_Bool (bytes_eq name label)) 
 abbrev pub SaysNoMore : List Name → RecordType → Type 0
 SaysNoMore labels type = (label : Name) → (IsOneOf labels label → ⊥) → field_at type label ≡ free_field type
 
--- a record that has at each label what is told
+-- a record that has at each label what is given
 abbrev pub labelled_by : {X : Type 0} → (X → Answers) → (Name → Option X) → Labelled
 labelled_by answers at label field answer = Says answers (at label) field answer
 

@@ -1,4 +1,4 @@
--- Questions that ask no less than others, and what families cover.
+-- Questions that others subsume, and what families subsume.
 use Rattle.std.proofs.Common.{◌≡◌, true, false, List, inl, inr, sym, subst}
 use Rattle.cd_sets.specs.declared.node_id.NodeId.{NodeId}
 use Rattle.cd_sets.specs.declared.question.Question.{Question}
@@ -12,21 +12,21 @@ use Rattle.cd_rules.specs.Family.{IsSubsumedBy, ContradictsItself, IsOfFamily, I
 use Rattle.cd_rules.proofs.Among.{of_each, one_of_among, each_of_its, each_of_among, among_itself, among_on, among_sets}
 use Rattle.cd_model.proofs.Ones.{each_weaker, one_weaker, one_leads, one_with_each}
 
--- each question asks no less than itself
+-- each question is subsumed by itself
 pub asks_itself : (question : Question) → IsSubsumedBy question question
 asks_itself question = (among_itself question.pos, among_itself question.neg)
 
--- one that asks no less than a second, which asks no less than a third, asks no less than that
+-- one that is subsumed by a second, which is subsumed by a third, is subsumed by that
 pub asks_on : (more question less : Question) → IsSubsumedBy more question → IsSubsumedBy question less → IsSubsumedBy more less
 asks_on more question less asks on =
     (among_on less.pos question.pos more.pos on.0 asks.0, among_on less.neg question.neg more.neg on.1 asks.1)
 
--- where nodes are among others, the question of the others asks no less
+-- where nodes are among others, the question of the others is subsumed
 pub asks_more : (pos neg more_pos more_neg : List NodeId) → AreAmong pos more_pos → AreAmong neg more_neg
     → IsSubsumedBy (question more_pos more_neg) (question pos neg)
 asks_more pos neg more_pos more_neg wanted refused = (among_sets pos more_pos wanted, among_sets neg more_neg refused)
 
--- what is in a question that asks no less than another is in the other
+-- what is in a question that another subsumes is in the other
 pub asked_less : (answers : Answers) (question other : Question) → IsSubsumedBy question other → asked answers question true
     → asked answers other true
 asked_less answers question other asks is = (
@@ -39,7 +39,7 @@ pub subsumes_own : (family : List Question) (question : Question) → IsOfFamily
 subsumes_own family question is = inl (one_weaker (λ other. other ≡ question) (IsSubsumedBy question)
     (λ other same. subst (IsSubsumedBy question) (sym same) (asks_itself question)) family is)
 
--- what asks no less than a question that contradicts itself contradicts itself too
+-- what is subsumed by a question that contradicts itself contradicts itself too
 contradicts_more : (more question : Question) → IsSubsumedBy more question → ContradictsItself question → ContradictsItself more
 contradicts_more more question asks is = one_of_among (λ id. AnyOf (λ other. other ≡ id) more.neg) question.pos more.pos asks.0
     (one_weaker (λ id. AnyOf (λ other. other ≡ id) question.neg) (λ id. AnyOf (λ other. other ≡ id) more.neg)
@@ -53,14 +53,14 @@ contradicts_none answers one_way question is asking =
     one_leads (λ id. AnyOf (λ other. other ≡ id) question.neg × answers id true)
     (λ id here. one_way id here.1 (of_each (λ id. answers id false) question.neg id asking.1 here.0)) question.pos both
 
--- and what asks no less than a question that it subsumes
+-- and what is subsumed by a question that it subsumes
 pub subsumes_more : (family : List Question) (more question : Question) → IsSubsumedBy more question → IsSubsumed question family
     → IsSubsumed more family
 subsumes_more family more question asks (inl subsumed) = inl (one_weaker (IsSubsumedBy question) (IsSubsumedBy more)
     (λ other on. asks_on more question other asks on) family subsumed)
 subsumes_more family more question asks (inr contradicts) = inr (contradicts_more more question asks contradicts)
 
--- what is so of each question of a family, and comes from a question to each that asks no less, and is so of each that contradicts
+-- what is so of each question of a family, and comes from a question to each that it subsumes, and is so of each that contradicts
 -- itself, is so of each that the family subsumes
 pub of_subsumed : (Fact : Question → Type 0) (family : List Question) (question : Question)
     → ((other : Question) → IsSubsumedBy question other → Fact other → Fact question)

@@ -19,7 +19,7 @@ AreAmong some all = AllOf (λ x. AnyOf (λ other. other ≡ x) all) some
 abbrev pub SameMembers : {X : Type 0} → (some others : List X) → Type 0
 SameMembers some others = AreAmong some others × AreAmong others some
 
--- A question asks no less than another: it wants each node that the other wants, and refuses each
+-- A question is subsumed by another where it wants each node that the other wants, and refuses each
 -- one that the other refuses. So what is in it is in the other
 abbrev pub IsSubsumedBy : Question → Question → Type 0
 IsSubsumedBy question other = AreAmong other.pos question.pos × AreAmong other.neg question.neg
@@ -28,8 +28,8 @@ IsSubsumedBy question other = AreAmong other.pos question.pos × AreAmong other.
 abbrev pub ContradictsItself : Question → Type 0
 ContradictsItself question = AnyOf (λ id. AnyOf (λ other. other ≡ id) question.neg) question.pos
 
--- a family subsumes a question that asks no less than one of its questions, and each one that
--- contradicts itself
+-- a family subsumes a question that one of its questions subsumes, and each one that contradicts
+-- itself
 abbrev pub IsSubsumed : Question → List Question → Type 0
 IsSubsumed question family = AnyOf (IsSubsumedBy question) family ⊎ ContradictsItself question
 

@@ -11,7 +11,7 @@ use Rattle.cd_rules.specs.Needs.{question}
 use Rattle.cd_rules.specs.Rows.{Reasons, cell_at, field_at, is_reason, labels_of, row_of, types_at, types_elsewhere}
 use Rattle.cd_tasks.specs.Assignments.{Word, begins_with, reason_of, reasons_by, row_by}
 use Rattle.cd_tasks.specs.Within.{AreCellsWithin, IsCellWithin, IsRowWithin}
-use Rattle.cd_tasks.proofs.WaysWithin.{asks_no_less, begins_later, same_side}
+use Rattle.cd_tasks.proofs.WaysWithin.{more_is_subsumed, begins_later, same_side}
 
 reasons_begin : (labels : List Name) (word longer : Word) (refused : List RecordType) → begins_with word longer ≡ true
     → (more : Reasons) × (reasons_by labels longer refused ≡ reasons_by labels word refused ++ more)
@@ -58,7 +58,7 @@ both_true one other is_one is_other = ap (λ is. is && other) is_one ∙ is_othe
 cell_within : (wanted : List RecordType) (reasons more : Reasons) (label : Name)
     → IsCellWithin (cell_at wanted reasons label) (cell_at wanted (reasons ++ more) label)
 cell_within wanted reasons more label = (
-  asks_no_less _ _ _ _ (among_itself (map (λ type. (field_at type label).type) wanted))
+  more_is_subsumed _ _ _ _ (among_itself (map (λ type. (field_at type label).type) wanted))
       (among_map (λ type. (field_at type label).type) (types_at label reasons) (types_at label (reasons ++ more)) (among_types label reasons more)),
   λ absent. let parts = and_parts _ _ absent in
       both_true _ _ parts.0 (all_first (λ type. not (field_at type label).optional) (types_at label reasons) (types_at label more)

@@ -65,16 +65,16 @@ three_within (side ∷ word) (other ∷ longer) (x ∷ members) begins =
     (three_with x (given_in_three word members) (given_in_three longer members) (side == 0) (side == 1)
     (three_within word longer members (begins_later side other word longer begins)))
 
--- a question asks no less where what it is made of has more
-pub asks_no_less : (pos neg more_pos more_neg : List NodeId) → AreAmong pos more_pos → AreAmong neg more_neg
+-- a question is subsumed where what it is made of has more
+pub more_is_subsumed : (pos neg more_pos more_neg : List NodeId) → AreAmong pos more_pos → AreAmong neg more_neg
     → IsSubsumedBy (question more_pos more_neg) (question pos neg)
-asks_no_less pos neg more_pos more_neg among_pos among_neg = (among_sets pos more_pos among_pos, among_sets neg more_neg among_neg)
+more_is_subsumed pos neg more_pos more_neg among_pos among_neg = (among_sets pos more_pos among_pos, among_sets neg more_neg among_neg)
 
 -- of the parts of more members too
 parts_within : {X : Type 0} (part : X → NodeId) (pos : List NodeId) (members more : List X) → AreAmong members more
     → IsSubsumedBy (question pos (map part more)) (question pos (map part members))
 parts_within part pos members more among =
-    asks_no_less pos (map part members) pos (map part more) (among_itself pos) (among_map part members more among)
+    more_is_subsumed pos (map part members) pos (map part more) (among_itself pos) (among_map part members more among)
 
 pair_within : (wanted : List Pair) (sides longer : List Pair × List Pair) → AreTwoAmong sides longer
     → IsWayWithin (pair_way wanted sides) (pair_way wanted longer)
@@ -99,7 +99,7 @@ result_within refused [] longer among = tt
 result_within refused (one ∷ others) [] among = absurd among.0
 result_within refused (one ∷ others) (first ∷ longer) among =
     let result : Pair → NodeId = λ parts. parts.1 in (
-      asks_no_less (map result (one ∷ others)) (refused.1 ∷ []) (map result (first ∷ longer)) (refused.1 ∷ [])
+      more_is_subsumed (map result (one ∷ others)) (refused.1 ∷ []) (map result (first ∷ longer)) (refused.1 ∷ [])
           (among_map result (one ∷ others) (first ∷ longer) among) (among_itself (refused.1 ∷ [])),
       tt,
     )

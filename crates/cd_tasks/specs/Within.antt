@@ -5,14 +5,14 @@ use Rattle.cd_rules.specs.Family.{AreAmong, IsSubsumedBy}
 use Rattle.cd_rules.specs.Needs.{Way}
 use Rattle.cd_rules.specs.Rows.{Cell, Row}
 
--- each question of the way has one in the longer way at its place, which asks no less
+-- each question of the way subsumes the one at its place in the longer way
 abbrev pub IsWayWithin : (way longer : Way) → Type 0
 IsWayWithin [] longer = Unit {0}
 IsWayWithin (question ∷ way) [] = ⊥
 IsWayWithin (question ∷ way) (other ∷ longer) =
     IsSubsumedBy other question × IsWayWithin way longer
 
--- the longer cell's question asks no less; and where the longer cell lets the label be absent, so
+-- the longer cell's question is subsumed; and where the longer cell lets the label be absent, so
 -- does this one
 abbrev pub IsCellWithin : (cell longer : Cell) → Type 0
 IsCellWithin cell longer =

@@ -93,7 +93,7 @@ impl Odometer {
         Ok(None)
     }
 
-    /// Tells the next word.
+    /// Gives the next word.
     pub(crate) fn visit(&mut self, word: Vec<usize>)
         requires { length word.items ≤ self.old.members }
         ensures members { self.new.members ≡ self.old.members }

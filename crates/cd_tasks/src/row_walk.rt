@@ -76,7 +76,7 @@ impl<'g> RowWalk<'g> {
         })
     }
 
-    /// Tells the first word of those that are left, if one is left.
+    /// Gives the first word of those that are left, if one is left.
     ///
     /// # Errors
     ///

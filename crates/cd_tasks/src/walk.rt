@@ -14,8 +14,8 @@ use std::alloc::{AllocError, Global};
 /// What a step of a walk over ways gave.
 #[derive(Drop)]
 pub enum Step {
-    /// The questions of a word that gives not all members to sides. Each way of a word that begins
-    /// with it asks no less.
+    /// The questions of a word that gives not all members to sides. They subsume those of each way
+    /// of a word that begins with it.
     Partial(Questions),
     /// The questions of a way.
     Full(Questions),
@@ -58,7 +58,7 @@ impl<'g> Walk<'g> {
         })
     }
 
-    /// Tells the first word of those that are left, if one is left.
+    /// Gives the first word of those that are left, if one is left.
     ///
     /// # Errors
     ///

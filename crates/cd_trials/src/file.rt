@@ -72,8 +72,8 @@ impl Tally {
     }
 }
 
-/// Puts the rows of a file, the pairs of its questions, its places, its runs, its documents, and its
-/// programs.
+/// Puts the rows of a file, the pairs of its questions, its places, its runs, its documents, and
+/// its programs.
 pub(crate) fn put_file(
     rt: &(impl Print + AllocGlobal),
     name: &str,

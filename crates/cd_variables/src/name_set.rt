@@ -89,7 +89,7 @@ fn are_within(names: &[&Name], others: &NameIndex<'_>) -> bool
     true
 }
 
-/// Tells that the alternative at this place binds other variables than the first, which binds
+/// Reports that the alternative at this place binds other variables than the first, which binds
 /// these names, if it does.
 pub(crate) fn report_if_differs<'t>(
     alloc: Global,

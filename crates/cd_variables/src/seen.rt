@@ -96,7 +96,7 @@ pub(crate) fn report_repeats<'t>(
     Ok(())
 }
 
-// Tells a fault of a variable.
+// Reports a fault of a variable.
 fn report<'t>(
     fault: NameFault,
     variable: &Occurrence<'t>,

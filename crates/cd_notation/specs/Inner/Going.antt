@@ -1,4 +1,4 @@
--- A text of which the front is read.
+-- A text of which a prefix is read.
 use Rattle.std.specs.Prelude.{◌≡◌, ℕ, false, List, ◌⊎◌, Result, Ok, Err}
 use Rattle.cd_syntax.specs.declared.tokens.Token.{Token}
 use Rattle.cd_syntax.specs.declared.tokens.LexError.{LexError}
@@ -24,7 +24,7 @@ pub record Makes (text : List ℕ) (now : State) (rest : List Token) : Type 0 wh
   pub lexes : Lexes false 0 text all
   pub runs : run most_open start all ≡ run most_open now rest
 
--- what is left of the text, and the state: what the rest spells follows what was read
+-- what is left of the text, and the state: what the rest lexes as follows what was read
 pub record Going (text : List ℕ) (lexer : Lexer) (values : Values) (next : Expecting)
     (reader : Reader) : Type 0 where
   pub now : State

@@ -11,8 +11,8 @@ use Rattle.cd_rows.proofs.KeptRows.{both_tested, first_tested}
 use Rattle.cd_rows.proofs.RowsOfGraphs.{present_ask}
 use Rattle.cd_rows.proofs.witnesses.has_record.Goals as goal
 
-pub cells_live-requires : goal.cells_live-requires
-cells_live-requires c =
+pub cells_have_witnesses-requires : goal.cells_have_witnesses-requires
+cells_have_witnesses-requires c =
     let nodes = length (graph_of c.args.world.now) in
     subst (λ cells. AllOf (AsksNodes nodes) (present (plain_cells cells)))
     (sym c.as_slice.ensures.value)
@@ -25,10 +25,10 @@ returns-then-branch-clause-tested c =
     IfOk-weaker c.are_inhabited.result _ _
     (λ b rest. both_tested graph (present row.cells) row.some b
     (subst (IsTested graph (present row.cells)) c.if-branch.true
-    (subst (λ cells. IsTested graph (present (plain_cells cells)) c.in_ok-cells_live.field-0)
-    c.as_slice.ensures.value c.in_ok-cells_live.ensures.tested))
-    (subst (λ graph. IsTested graph row.some b) c.in_ok-cells_live.ensures.after.graph
-    (subst (λ some. IsTested (graph_of c.cells_live.new.world) some b) c.items.ensures rest)))
+    (subst (λ cells. IsTested graph (present (plain_cells cells)) c.in_ok-cells_have_witnesses.field-0)
+    c.as_slice.ensures.value c.in_ok-cells_have_witnesses.ensures.tested))
+    (subst (λ graph. IsTested graph row.some b) c.in_ok-cells_have_witnesses.ensures.after.graph
+    (subst (λ some. IsTested (graph_of c.cells_have_witnesses.new.world) some b) c.items.ensures rest)))
     c.are_inhabited.ensures.tested
 
 pub returns-else-branch-clause-tested : goal.returns-else-branch-clause-tested
@@ -37,5 +37,5 @@ returns-else-branch-clause-tested c =
     let row = plain_row c.args.row.now in
     first_tested graph (present row.cells) row.some
     (subst (IsTested graph (present row.cells)) c.if-branch.false
-    (subst (λ cells. IsTested graph (present (plain_cells cells)) c.in_ok-cells_live.field-0)
-    c.as_slice.ensures.value c.in_ok-cells_live.ensures.tested))
+    (subst (λ cells. IsTested graph (present (plain_cells cells)) c.in_ok-cells_have_witnesses.field-0)
+    c.as_slice.ensures.value c.in_ok-cells_have_witnesses.ensures.tested))
