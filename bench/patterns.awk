@@ -18,14 +18,14 @@ function repeated(text,    i, all) {
 BEGIN {
     if (what == "elements") {
         printf "%s type All = %s\n", row("type E# = <e#>[Int*]", "\n"), row("E#", "|")
-        printf "let fun main (All -> Any) %s -> 0\n", row("<e#>x", " -> 0 | ")
+        printf "let fun main (All -> Int) %s -> 0\n", row("<e#>x", " -> 0 | ")
     } else if (what == "items") {
-        printf "type Ints = [Int*] let fun main (Ints -> Any) [%s rest::Int*] -> 0 | _ -> 0\n", row("(x# & Int)", " ")
+        printf "type Ints = [Int*] let fun main (Ints -> Int) [%s rest::Int*] -> 0 | _ -> 0\n", row("(x# & Int)", " ")
     } else if (what == "union") {
-        printf "let fun main (Int -> Any) (%s) -> 0 | _ -> 0\n", row("(x & #)", " | ")
+        printf "let fun main (Int -> Int) (%s) -> 0 | _ -> 0\n", row("(x & #)", " | ")
     } else if (what == "refused") {
-        printf "type Pairs = (Int, Int) let fun main (Pairs -> Any) %s -> 0 | (x, y) -> 0\n", row("(1, #)", " -> 0 | ")
+        printf "type Pairs = (Int, Int) let fun main (Pairs -> Int) %s -> 0 | (x, y) -> 0\n", row("(1, #)", " -> 0 | ")
     } else if (what == "nested") {
-        printf "let fun main (Any -> Any) %sx%s -> 0 | _ -> 0\n", repeated("("), repeated(", 0)")
+        printf "let fun main (Any -> Int) %sx%s -> 0 | _ -> 0\n", repeated("("), repeated(", 0)")
     }
 }
