@@ -21,6 +21,10 @@ pub(crate) fn class_of(numbers: &[usize], number: usize) -> usize
     numbers.get(number).copied().unwrap_or(numbers.len())
 }
 
+// How often the nodes are passed over at most. Most kernels want two passes; a long chain of nodes
+// that name later ones could want one for each.
+const PASSES: usize = 16;
+
 /// Classes of nodes that have one key. They are found by passing over the nodes until no two
 /// classes become one. Nothing is claimed of them here: they are looked at before they are used.
 pub(crate) fn classes_of(alloc: Global, nodes: &[KernelNode]) -> Result<Classes, AllocError> {
@@ -28,7 +32,7 @@ pub(crate) fn classes_of(alloc: Global, nodes: &[KernelNode]) -> Result<Classes,
     for number in 0..nodes.len() {
         firsts.push(number)?;
     }
-    for _pass in 0..nodes.len() {
+    for _pass in 0..PASSES {
         if !merge_more(alloc, nodes, &mut firsts)? {
             break;
         }
