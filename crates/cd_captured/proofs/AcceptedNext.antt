@@ -1,56 +1,27 @@
 -- Where all elements of a place are taken, all elements of the places that its steps lead to are:
 -- for all right tests at once.
-use Rattle.std.proofs.Common.{◌≡◌, ℕ, ◌≤◌, Bool, true, false, List, [], ◌∷◌, ◌+◌, inl, inr}
-use Rattle.std.proofs.Common.{length, Option, Some, None, refl, sym, ap, subst, ◌∙◌, nat_lt, arith}
+use Rattle.std.proofs.Common.{◌≡◌, ℕ, Bool, true, false, List, [], ◌∷◌, inl, inr}
+use Rattle.std.proofs.Common.{length, Option, Some, None, refl, sym, subst, arith}
 use Rattle.std.specs.List.{slice_get}
-use Rattle.std.proofs.lemmas.Bool.{true≢false, cases_Bool, ltb-true, ltb-false}
-use Rattle.std.proofs.lemmas.Option.{same_Some, slice_get_within}
 use Rattle.cd_sets.specs.declared.node_id.NodeId.{NodeId}
 use Rattle.cd_sets.specs.declared.question.Question.{Question}
 use Rattle.cd_syntax.specs.Name.{Name}
 use Rattle.cd_model.specs.AllOf.{AllOf}
-use Rattle.cd_model.specs.Formula.{Graph, Formula, formula_at, in_node}
+use Rattle.cd_model.specs.Formula.{Graph, in_node}
 use Rattle.cd_model.specs.Thing.{Thing, IsElement}
 use Rattle.cd_matching.specs.Kernel.{Kernel, KernelNode, KernelField, Both, First, Pair, Gather, Xml}
 use Rattle.cd_matching.specs.Kernel.{Record}
-use Rattle.cd_rules.proofs.NumbersBeyond.{beyond}
 use Rattle.cd_products.specs.Products.{AreProducts, AreTriples}
 use Rattle.cd_products.proofs.Decided.{elements_apart}
-use Rattle.cd_filter.specs.Accepting.{place as place_from, place_of, IsOwn, Accepts, by_itself}
-use Rattle.cd_filter.specs.Accepting.{by_both, by_members, IsAcceptedFrom, AreRight}
+use Rattle.cd_filter.specs.Accepting.{place_of, IsAcceptedFrom, AreRight}
 use Rattle.cd_filter.specs.Capturing.{IsAccepted, IsNarrowed, IsSettled}
 use Rattle.cd_filter.specs.Rows.{Picks}
 use Rattle.cd_filter.specs.Table.{Place, Step, Takes, Puts, Leads, Gathers, at, cell_steps}
 use Rattle.cd_filter.proofs.Accepts.{elements_accepting}
 use Rattle.cd_captured.specs.Explored.{IsAcceptedPlace}
 use Rattle.cd_captured.specs.NextPlaces.{NextHas}
-use Rattle.cd_captured.proofs.NodesStay.{is_nothing}
 use Rattle.cd_captured.proofs.TakenNext as taken
 use Rattle.cd_captured.proofs.TakenNext.{AcceptsFirst}
-
--- a node for First has a formula, so it is a node of the graph
-no_first : (graph : Graph) (nodes : List (KernelNode NodeId)) (first number p q : ℕ) (f : Formula)
-    → Accepts graph nodes first number f → slice_get nodes number ≡ Some (First p q)
-    → is_nothing f ≡ true → ⊥
-no_first graph nodes first _ p q _ (by_itself number node there own) is none =
-    subst IsOwn (same_Some node (First p q) (sym there ∙ is)) own
-no_first graph nodes first _ p q _ (by_both number a b f g there one other) is none =
-    true≢false (sym none)
-no_first graph nodes first _ p q _ (by_members number members formulas same all) is none =
-    true≢false (sym none)
-
-first_within : (graph : Graph) (kernel : Kernel NodeId) (first : ℕ)
-    → IsAcceptedFrom graph kernel first → (number p q : ℕ)
-    → slice_get kernel.nodes number ≡ Some (First p q) → first ≤ length graph
-first_within graph kernel first is number p q there =
-    elim (cases_Bool (nat_lt (first + number) (length graph))) [
-      | inl below ↦ let here = ltb-true (first + number) (length graph) below in omega arith
-      | inr not ↦ absurd (no_first graph kernel.nodes first number p q
-          (formula_at graph (place_from first number))
-          (is.formulas number (slice_get_within kernel.nodes number (First p q) there)) there
-          (ap is_nothing
-          (beyond graph (first + number) (ltb-false (first + number) (length graph) not))))
-    ]
 
 module _ (graph : Graph) (kernel : Kernel NodeId) (first : ℕ)
     (is : IsAcceptedFrom graph kernel first) where
@@ -134,8 +105,8 @@ module _ (graph : Graph) (kernel : Kernel NodeId) (first : ℕ)
         one.0 kernel.nodes is.sound.ends (place_of kernel.nodes first) place
         (accepted one.0 one.1) (Some (First p q))
     accepts_first p q there one d sound =
-        let least = first_within graph kernel first is place.number p q there in
-        elements_accepting graph kernel first one.0 is (λ id below. one.1 id (omega arith)) d p sound
+        elements_accepting graph kernel first one.0 is
+        (λ id below. one.1 id (omega (arith, below, is.within))) d p sound
 
     pub first_accepted : (p q : ℕ) → slice_get kernel.nodes place.number ≡ Some (First p q)
         → (taken_first others : Question)

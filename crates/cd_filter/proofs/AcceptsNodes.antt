@@ -17,9 +17,10 @@ use Rattle.cd_matching.specs.Kernel.{Kernel, KernelNode, KernelField, Test, Bind
 use Rattle.cd_matching.specs.Kernel.{Record, Both, First, Gather, Apart, Taken, leads_to, parts_of}
 use Rattle.cd_matching.specs.Kernel.{by_node, IsSoundNode, IsSound}
 use Rattle.cd_filter.specs.Accepting.{place, fields_of, rest_of, AgreesAtFirst, IsOwn, own_formula}
-use Rattle.cd_filter.specs.Accepting.{Accepts, by_itself, by_both, by_members, AllAccept, no_more}
-use Rattle.cd_filter.specs.Accepting.{one_more}
+use Rattle.cd_filter.specs.Accepting.{Accepts, by_itself, by_both, by_members, by_simpler}
+use Rattle.cd_filter.specs.Accepting.{AllAccept, no_more, one_more}
 use Rattle.cd_filter.proofs.Combined.{is_some_so, both_answer}
+use Rattle.cd_filter.proofs.Simpler.{alike}
 
 module _ (graph : Graph) (kernel : Kernel NodeId) (first : ℕ) (test : NodeId → Thing → Bool)
     (is : IsSound (λ id. id.0 < first) kernel) where
@@ -107,6 +108,8 @@ module _ (graph : Graph) (kernel : Kernel NodeId) (first : ℕ) (test : NodeId �
       accepts_in _ _ (by_members number members formulas are all) =
           subst (Holds (formula.Or (formulas_of formulas)))
           (sym (are (λ other. is_some (takes other)) agrees)) (all_accept_in members formulas all)
+      accepts_in _ _ (by_simpler number f g accepts_f simpler) =
+          alike read f g simpler (is_some (takes number)) (accepts_in number f accepts_f)
 
       all_accept_in : (members : List ℕ) (formulas : List Formula)
           → AllAccept graph kernel.nodes first members formulas

@@ -16,10 +16,11 @@ use Rattle.cd_matching.specs.Kernel.{Put, Pair, Xml, Record, Both, First, Gather
 use Rattle.cd_matching.specs.Kernel.{leads_to, parts_of, field_nodes, optional_types, IsSoundNode}
 use Rattle.cd_matching.specs.Kernel.{IsSound}
 use Rattle.cd_filter.specs.Accepting.{place, fields_of, rest_of, own_formula, Accepts}
-use Rattle.cd_filter.specs.Accepting.{by_itself, by_both, by_members, AllAccept, no_more, one_more}
-use Rattle.cd_filter.specs.Accepting.{IsAcceptedFrom}
+use Rattle.cd_filter.specs.Accepting.{by_itself, by_both, by_members, by_simpler, AllAccept}
+use Rattle.cd_filter.specs.Accepting.{no_more, one_more, IsAcceptedFrom}
 use Rattle.cd_filter.specs.Inner.Forming.{HasTypes, IsBatch}
 use Rattle.cd_filter.proofs.Forming.{has_types}
+use Rattle.cd_filter.proofs.Simpler.{simpler_sound}
 use Rattle.cd_model.proofs.ByNumber.{each_got, got_some, all_got}
 use Rattle.cd_model.proofs.FormulasAmongMore.{formula_among_more, formula_after, formula_kept, sound_at}
 
@@ -86,6 +87,8 @@ module _ (graph : Graph) (kernel : Kernel NodeId)
           (accepts_sound p f accepts_p, (accepts_sound q g accepts_q, tt))
       accepts_sound _ _ (by_members number members formulas are all) =
           all_sound members formulas all
+      accepts_sound _ _ (by_simpler number f g accepts_f simpler) =
+          simpler_sound all_nodes f g simpler (accepts_sound number f accepts_f)
 
       all_sound : (members : List ℕ) (formulas : List Formula)
           → AllAccept graph kernel.nodes (length graph) members formulas
@@ -128,6 +131,8 @@ module _ (graph : Graph) (kernel : Kernel NodeId)
           by_both number p q f g there (accepts_later p f accepts_p) (accepts_later q g accepts_q)
       accepts_later _ _ (by_members number members formulas are all) =
           by_members number members formulas are (all_later members formulas all)
+      accepts_later _ _ (by_simpler number f g accepts_f simpler) =
+          by_simpler number f g (accepts_later number f accepts_f) simpler
 
       all_later : (members : List ℕ) (formulas : List Formula)
           → AllAccept graph kernel.nodes (length graph) members formulas

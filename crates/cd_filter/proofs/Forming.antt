@@ -8,13 +8,15 @@ use Rattle.std.specs.Option.{IfSome}
 use Rattle.std.proofs.lemmas.Bool.{true≢false}
 use Rattle.std.proofs.lemmas.Option.{none-some}
 use Rattle.cd_sets.specs.declared.node_id.NodeId.{NodeId}
-use Rattle.cd_model.specs.Formula.{Graph, Formula}
+use Rattle.cd_model.specs.Formula as formula
+use Rattle.cd_model.specs.Formula.{Graph, Formula, formulas_of}
 use Rattle.cd_model.proofs.ByNumber.{all_got}
 use Rattle.cd_graph.specs.PlainFormula.{plain}
 use Rattle.cd_matching.specs.Kernel.{Kernel, KernelNode, Test, Bind, Put, Pair, Xml, Record, Both}
 use Rattle.cd_matching.specs.Kernel.{First, Gather, IsSound, IsSoundNode}
 use Rattle.cd_filter.specs.Accepting.{AreMembers, IsOwn, own_formula, Accepts}
-use Rattle.cd_filter.specs.Accepting.{by_itself, by_both, by_members, AllAccept, no_more, one_more}
+use Rattle.cd_filter.specs.Accepting.{by_itself, by_both, by_members, by_simpler, AllAccept}
+use Rattle.cd_filter.specs.Accepting.{no_more, one_more}
 use Rattle.cd_filter.specs.Inner.Forming.{is_among, others, joined, row_formula, row_members}
 use Rattle.cd_filter.specs.Inner.Forming.{row_at, is_there, formula_in, members_in, IsUnion, IsMeet}
 use Rattle.cd_filter.specs.Inner.Forming.{IsAlone, IsFormOf, HasTypes, IsFormed, AreFormed, IsBatch}
@@ -148,18 +150,22 @@ module _ (graph : Graph) (nodes : List (KernelNode NodeId)) (first : ℕ) where
         → IsMeet rows number p q formed → IsFormed graph nodes first number formed
     of_meet number p q there formed is = record {
       members = subst (AreMembers nodes number) (sym is.members_are) (alone_members number);
-      accepts = subst (Accepts graph nodes first number) (sym is.meet_is)
+      accepts = by_simpler number
+          (formula.And (formulas_of (formula_in rows p ∷ formula_in rows q ∷ [])))
+          (plain formed.formula)
           (by_both number p q (formula_in rows p) (formula_in rows q) there
-          (in_row p is.first_there) (in_row q is.second_there));
+          (in_row p is.first_there) (in_row q is.second_there)) is.simpler;
     }
 
     of_union : (number p q : ℕ) → slice_get nodes number ≡ Some (First p q) → (formed : Formed)
         → IsUnion rows p q formed → IsFormed graph nodes first number formed
     of_union number p q there formed is = record {
       members = are_members;
-      accepts = subst (Accepts graph nodes first number) (sym is.union_is)
+      accepts = by_simpler number
+          (formula.Or (formulas_of (map (formula_in rows) formed.members.items)))
+          (plain formed.formula)
           (by_members number formed.members.items (map (formula_in rows) formed.members.items)
-          are_members (in_rows formed.members.items is.there));
+          are_members (in_rows formed.members.items is.there)) is.simpler;
     }
       where
         are_members : AreMembers nodes number formed.members.items

@@ -1,5 +1,6 @@
 pub mod Combined
 pub mod NamedFields
+pub mod Simpler
 pub mod AcceptsNodes
 pub mod AcceptsRecords
 pub mod Accepts

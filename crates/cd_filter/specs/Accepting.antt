@@ -13,6 +13,7 @@ use Rattle.cd_matching.specs.Kernel.{Kernel, leads_to, parts_of, IsSound}
 use Rattle.cd_matching.specs.Kernel.{KernelNode, KernelField, Present, Optional, Test, Bind, Put}
 use Rattle.cd_matching.specs.Kernel.{Pair, Xml, Record, Both, First, Gather, taken, kernel_takes}
 use Rattle.cd_matching.specs.Takes.{Answering, IsRight}
+use Rattle.cd_filter.specs.Simpler.{IsSimpler}
 
 -- the graph's node for a node of the kernel
 abbrev pub place : (first number : ℕ) → NodeId
@@ -69,7 +70,8 @@ module _ (graph : Graph) (first : ℕ) where
 
 module _ (graph : Graph) (nodes : List (KernelNode NodeId)) (first : ℕ) where
   -- The formula is one for the node with this number: a chain of First has one union of any nodes
-  -- that together take the same, so that a long one needs no deep formula
+  -- that together take the same, so that a long one needs no deep formula. A simpler form of one is
+  -- one too
   mutual
     pub data Accepts : ℕ → Formula → Type 0 where
       by_itself : (number : ℕ) (node : KernelNode NodeId) → slice_get nodes number ≡ Some node
@@ -80,6 +82,8 @@ module _ (graph : Graph) (nodes : List (KernelNode NodeId)) (first : ℕ) where
       by_members : (number : ℕ) (members : List ℕ) (formulas : List Formula)
           → AreMembers nodes number members → AllAccept members formulas
           → Accepts number (formula.Or (formulas_of formulas))
+      by_simpler : (number : ℕ) (f g : Formula) → Accepts number f → IsSimpler f g
+          → Accepts number g
 
     pub data AllAccept : List ℕ → List Formula → Type 0 where
       no_more : AllAccept [] []

@@ -1,3 +1,4 @@
+pub mod Simpler
 pub mod Accepting
 pub mod Table
 pub mod Rows

@@ -7,9 +7,10 @@ ghost use Rattle.cd_matching.specs.Kernel.{IsSound};
 ghost use Rattle.cd_matching.specs.PlainKernel.{plain_kernel, plain_node, plain_nodes};
 ghost use Rattle.cd_filter.specs.Inner.Forming.{IsFormOf, HasTypes, IsFormed, AreFormed, IsBatch};
 
+use crate::combining::{meet, union};
 use crate::formed::Formed;
 use crate::own::{pair, record, xml};
-use crate::rows::{alone, are_full, formulas, is_there, meet, union};
+use crate::rows::{alone, are_full, formulas, is_there};
 use cd_graph::{Formula, Graph};
 use cd_matching::kernel::{Kernel, KernelNode};
 use std::alloc::{AllocError, Global};

@@ -3,6 +3,7 @@
 
 pub mod accept;
 mod batch;
+mod combining;
 mod formed;
 pub mod laws;
 mod members;

@@ -1,15 +1,13 @@
-//! Rows of formulas that are formed, and those formed of them.
+//! Rows of formulas that are formed.
 ghost use Rattle.std.specs.Prelude.{◌≡◌, IfOk, map, is_some};
 ghost use Rattle.std.specs.List.{list_all};
 ghost use Rattle.std.specs.Option.{IfSome};
 ghost use Rattle.cd_graph.specs.PlainFormula.{plain};
 ghost use Rattle.cd_filter.specs.Inner.Forming.{row_formula, row_members, is_there};
-ghost use Rattle.cd_filter.specs.Inner.Forming.{formula_in, members_in, IsUnion, IsMeet};
-ghost use Rattle.cd_filter.specs.Inner.Forming.{IsAlone};
+ghost use Rattle.cd_filter.specs.Inner.Forming.{formula_in, members_in, IsAlone};
 
 use crate::formed::Formed;
-use crate::members::joined;
-use cd_graph::{Formula, Formulas};
+use cd_graph::Formula;
 use std::alloc::{AllocError, Global};
 
 /// Whether the formula for this number is there.
@@ -32,8 +30,8 @@ fn formula_of(row: &Option<Formed>) -> Result<Formula, AllocError>
     }
 }
 
-// A copy of the formula for this number.
-fn formula_in(rows: &[Option<Formed>], number: usize) -> Result<Formula, AllocError>
+/// A copy of the formula for this number.
+pub(crate) fn formula_in(rows: &[Option<Formed>], number: usize) -> Result<Formula, AllocError>
     ensures { IfOk result (λ is. plain is ≡ formula_in rows.now number) }
 {
     match rows.get(number) {
@@ -52,8 +50,8 @@ fn members_of(row: &Option<Formed>) -> &[usize]
     }
 }
 
-// The members for this number.
-fn members_in(rows: &[Option<Formed>], number: usize) -> &[usize]
+/// The members for this number.
+pub(crate) fn members_in(rows: &[Option<Formed>], number: usize) -> &[usize]
     ensures { result.now ≡ members_in rows.now number }
 {
     match rows.get(number) {
@@ -62,15 +60,15 @@ fn members_in(rows: &[Option<Formed>], number: usize) -> &[usize]
     }
 }
 
-// Whether the formulas for all of these are there.
-fn are_there(rows: &[Option<Formed>], numbers: &[usize]) -> bool
+/// Whether the formulas for all of these are there.
+pub(crate) fn are_there(rows: &[Option<Formed>], numbers: &[usize]) -> bool
     ensures { result ≡ list_all (is_there rows.now) numbers.now }
 {
     numbers.iter().all(|number| is_there(rows, *number))
 }
 
-// Copies of the formulas for these.
-fn formulas_in(
+/// Copies of the formulas for these.
+pub(crate) fn formulas_in(
     alloc: Global,
     rows: &[Option<Formed>],
     numbers: &[usize],
@@ -93,46 +91,6 @@ pub(crate) fn alone(
     ensures { IfOk result (λ formed. IfSome formed (IsAlone number (plain formula))) }
 {
     let members = vec![in alloc; number]?;
-    Ok(Some(Formed { members, formula }))
-}
-
-/// What both of two take.
-pub(crate) fn meet(
-    alloc: Global,
-    rows: &[Option<Formed>],
-    number: usize,
-    p: usize,
-    q: usize,
-) -> Result<Option<Formed>, AllocError>
-    ensures { IfOk result (λ formed. IfSome formed (IsMeet rows.now number p q)) }
-{
-    if !is_there(rows, p) || !is_there(rows, q) {
-        return Ok(None);
-    }
-    let formulas = vec![in alloc; formula_in(rows, p)?, formula_in(rows, q)?]?;
-    let formula = Formula::and(Formulas::of(formulas)?);
-    let members = vec![in alloc; number]?;
-    Ok(Some(Formed { members, formula }))
-}
-
-/// What one of two takes: the union of the members of both.
-pub(crate) fn union(
-    alloc: Global,
-    rows: &[Option<Formed>],
-    p: usize,
-    q: usize,
-) -> Result<Option<Formed>, AllocError>
-    ensures { IfOk result (λ formed. IfSome formed (IsUnion rows.now p q)) }
-{
-    if !is_there(rows, p) || !is_there(rows, q) {
-        return Ok(None);
-    }
-    let members = joined(alloc, members_in(rows, p), members_in(rows, q))?;
-    if !are_there(rows, members.as_slice()) {
-        return Ok(None);
-    }
-    let formulas = formulas_in(alloc, rows, members.as_slice())?;
-    let formula = Formula::or(Formulas::of(formulas)?);
     Ok(Some(Formed { members, formula }))
 }
 

@@ -7,7 +7,7 @@ use Rattle.cd_model.specs.Formula.{Graph, Formula, formula_at}
 use Rattle.cd_matching.specs.Kernel.{Kernel, KernelNode, Test, Bind, Put, Pair, Xml, Record, Both}
 use Rattle.cd_matching.specs.Kernel.{First, Gather, IsSoundNode}
 use Rattle.cd_filter.specs.Accepting.{place, own_formula, Accepts, by_itself, by_both, by_members}
-use Rattle.cd_filter.specs.Accepting.{AllAccept, no_more, one_more, IsAcceptedFrom}
+use Rattle.cd_filter.specs.Accepting.{by_simpler, AllAccept, no_more, one_more, IsAcceptedFrom}
 use Rattle.cd_model.proofs.FormulasAmongMore.{formula_kept}
 use Rattle.cd_model.proofs.ByNumber.{all_got}
 
@@ -42,6 +42,8 @@ module _ (graph more : Graph) (kernel : Kernel NodeId) (first : ℕ)
         by_both number p q f g there (accepts_later p f accepts_p) (accepts_later q g accepts_q)
     accepts_later _ _ (by_members number members formulas are all) =
         by_members number members formulas are (all_later members formulas all)
+    accepts_later _ _ (by_simpler number f g accepts_f simpler) =
+        by_simpler number f g (accepts_later number f accepts_f) simpler
 
     all_later : (members : List ℕ) (formulas : List Formula)
         → AllAccept graph kernel.nodes first members formulas

@@ -9,6 +9,7 @@ use Rattle.cd_model.specs.Formula.{Graph, Formula, formulas_of, AreRisingLabels}
 use Rattle.cd_graph.specs.PlainFormula.{plain}
 use Rattle.cd_matching.specs.Kernel.{KernelNode, Test, Record, Both, First}
 use Rattle.cd_filter.specs.Accepting.{AreMembers, own_formula, Accepts}
+use Rattle.cd_filter.specs.Simpler.{IsSimpler}
 use Rattle.cd_filter.specs.declared.formed.Formed.{Formed}
 
 abbrev pub is_among : List ℕ → ℕ → Bool
@@ -50,16 +51,17 @@ pub record IsUnion (rows : List (Option Formed)) (p q : ℕ) (formed : Formed) :
   pub first_there : is_there rows p ≡ true
   pub second_there : is_there rows q ≡ true
   pub there : list_all (is_there rows) formed.members.items ≡ true
-  pub union_is : plain formed.formula
-      ≡ formula.Or (formulas_of (map (formula_in rows) formed.members.items))
+  pub simpler : IsSimpler (formula.Or (formulas_of (map (formula_in rows) formed.members.items)))
+      (plain formed.formula)
 
 -- the formula of two
 pub record IsMeet (rows : List (Option Formed)) (number p q : ℕ) (formed : Formed) : Type 0 where
   pub members_are : formed.members.items ≡ number ∷ []
   pub first_there : is_there rows p ≡ true
   pub second_there : is_there rows q ≡ true
-  pub meet_is : plain formed.formula
-      ≡ formula.And (formulas_of (formula_in rows p ∷ formula_in rows q ∷ []))
+  pub simpler : IsSimpler
+      (formula.And (formulas_of (formula_in rows p ∷ formula_in rows q ∷ [])))
+      (plain formed.formula)
 
 pub record IsAlone (number : ℕ) (f : Formula) (formed : Formed) : Type 0 where
   pub members_are : formed.members.items ≡ number ∷ []
