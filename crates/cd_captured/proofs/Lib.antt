@@ -18,6 +18,10 @@ pub mod RowsOfRecords
 pub mod FieldSteps
 pub mod AskedCells
 pub mod FirstSteps
+pub mod ReplacedNodes
+pub mod NarrowedChoices
+pub mod ChoicesNarrowed
+pub mod ChosenNodes
 pub mod SettledPlaces
 pub mod PlacesExplored
 pub mod Listed

@@ -2,6 +2,7 @@
 pub mod PlainSteps
 pub mod NumberedSteps
 pub mod NodeSteps
+pub mod Choices
 pub mod FieldRows
 pub mod Exploring
 pub mod Reached

@@ -23,6 +23,7 @@ mod reach;
 mod records;
 mod settle;
 mod step;
+mod swapped;
 mod texts;
 mod union;
 mod want;

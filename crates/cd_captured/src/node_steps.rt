@@ -1,11 +1,13 @@
 //! The steps of the nodes of a kernel.
-ghost use Rattle.std.specs.Prelude.{◌≡◌, ◌+◌, ◌<◌, ◌≤◌, ◌++◌, length, IfOk};
+ghost use Rattle.std.specs.Prelude.{◌≡◌, ◌<◌, ◌++◌, length, Some, IfOk};
+ghost use Rattle.std.specs.List.{slice_get};
 ghost use Rattle.cd_matching.specs.Kernel.{IsSoundNode, leads_to, parts_of};
 ghost use Rattle.cd_matching.specs.PlainKernel.{plain_kernel, plain_node};
 ghost use Rattle.cd_model.specs.AllOf.{AllOf};
 ghost use Rattle.cd_rules.specs.Family.{AsksNodes};
 ghost use Rattle.cd_empty.specs.Growth.{Grows};
 ghost use Rattle.cd_empty.specs.Seen.{graph_of};
+ghost use Rattle.cd_filter.specs.Accepting.{IsAcceptedFrom};
 ghost use Rattle.cd_captured.specs.Inner.NodeSteps.{AreNodeSteps};
 ghost use Rattle.cd_captured.specs.Inner.PlainSteps.{all_steps};
 
@@ -23,12 +25,15 @@ use std::alloc::AllocError;
 pub(crate) fn node_steps<'k>(
     base: &Base<'k>,
     world: &mut World,
+    number: usize,
     question: &Question,
     node: &'k KernelNode,
 ) -> Result<Vec<Lead<'k>>, AllocError>
     requires asks { AsksNodes (length (graph_of world.old)) question.now }
-    requires within { base.now.first + length (plain_kernel base.now.kernel.now).nodes
-        ≤ length (graph_of world.old) }
+    requires accepted { IsAcceptedFrom (graph_of world.old) (plain_kernel base.now.kernel.now)
+        base.now.first }
+    requires there { slice_get (plain_kernel base.now.kernel.now).nodes number
+        ≡ Some (plain_node node.now) }
     requires sound { IsSoundNode (plain_kernel base.now.kernel.now).nodes
         (length base.now.kernel.now.variables.items) (λ id. id.0 < base.now.first)
         (plain_node node.now) }
@@ -56,7 +61,7 @@ pub(crate) fn node_steps<'k>(
         KernelNode::Both(p, q) => {
             lead_to_two(base.alloc, *p, question.copy()?, *q, question.copy()?)
         }
-        KernelNode::First(p, q) => first_steps(base, world, question, *p, *q),
+        KernelNode::First(p, q) => first_steps(base, world, number, question, *p, *q),
         KernelNode::Gather(variable, p, q) => {
             gather_steps(base, world, question, *variable, *p, *q)
         }

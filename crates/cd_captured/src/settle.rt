@@ -63,7 +63,13 @@ fn leads_of<'k>(
         Verdict::Empty => Ok(Vec::new(base.alloc)),
         Verdict::Inhabited(_) => {
             let kernel = base.kernel;
-            node_steps(base, world, &place.question, &kernel.nodes[place.number])
+            node_steps(
+                base,
+                world,
+                place.number,
+                &place.question,
+                &kernel.nodes[place.number],
+            )
         }
     }
 }

@@ -1,5 +1,5 @@
 -- The steps of a node of a kernel at a question, of elements and of values in each longer graph.
-use Rattle.std.specs.Prelude.{ℕ, ◌<◌, ◌++◌, true, false, List, length, Some}
+use Rattle.std.specs.Prelude.{ℕ, ◌<◌, ◌++◌, Bool, true, false, List, length, Some}
 use Rattle.cd_sets.specs.declared.node_id.NodeId.{NodeId}
 use Rattle.cd_sets.specs.declared.question.Question.{Question}
 use Rattle.cd_model.specs.AllOf.{AllOf}
@@ -30,10 +30,11 @@ pub record AreNodeSteps (graph : Graph) (nodes : List (KernelNode NodeId)) (firs
       question (Some node) steps
   pub in_range : AllOf (NextHas (IsInRange (length graph) (length nodes))) steps
 
--- this question holds what of another one is outside a node
-pub record AreOthers (graph : Graph) (id : NodeId) (question others : Question) : Type 0 where
-  pub elements : IsNarrowed (in_node graph) IsElement false id question others
+-- this question holds what of another one is in a node, or outside it
+pub record AreNarrowed (graph : Graph) (answer : Bool) (id : NodeId) (question narrowed : Question)
+    : Type 0 where
+  pub elements : IsNarrowed (in_node graph) IsElement answer id question narrowed
   pub values : (more : Graph) (interfaces : Interfaces) → IsGraph (graph ++ more)
       → AreInterfacesOf (graph ++ more) interfaces
-      → IsNarrowed (value_in_node (graph ++ more) interfaces) IsValue false id question others
-  pub asks : AsksNodes (length graph) others
+      → IsNarrowed (value_in_node (graph ++ more) interfaces) IsValue answer id question narrowed
+  pub asks : AsksNodes (length graph) narrowed

@@ -19,6 +19,9 @@ there : (c : After-index) → slice_get (plain_nodes c.args.base.now.kernel.now.
 there c = node_there c.args.base.now.kernel.now.nodes.items c.args.place.now.number
     c.index.result.now c.requires.place.number c.index.ensures
 
+pub node_steps-requires-clause-there : goal.node_steps-requires-clause-there
+node_steps-requires-clause-there c = there c
+
 pub node_steps-requires-clause-sound : goal.node_steps-requires-clause-sound
 node_steps-requires-clause-sound c =
     let nodes = plain_nodes c.args.base.now.kernel.now.nodes.items in
