@@ -1,5 +1,5 @@
 -- Facts of the members of lists by their places.
-use Rattle.std.proofs.Common.{◌≡◌, ℕ, zero, suc, ◌+◌, ◌<◌, Bool, true, false, List, [], ◌∷◌, length, get_or}
+use Rattle.std.proofs.Common.{◌≡◌, inl, inr, ℕ, zero, suc, ◌+◌, ◌<◌, Bool, true, false, List, [], ◌∷◌, length, get_or}
 use Rattle.std.proofs.Common.{take, map, slice_get, Option, Some, None, refl, ap, sym, ◌∙◌, subst, arith}
 use Rattle.std.proofs.lemmas.List.{take_more}
 use Rattle.std.specs.Borrow.{Bor}
@@ -8,7 +8,8 @@ use Rattle.std.specs.Slice.{IsItemAt}
 use Rattle.std.proofs.lemmas.Option.{slice_get-get_or, slice_get_past}
 use Rattle.cd_model.specs.AllOf.{AllOf}
 use Rattle.cd_model.proofs.Ones.{each_of_lists}
-use Rattle.cd_members.specs.Inner.Holding.{IsPlace}
+use Rattle.cd_members.specs.Held.{IsSoAt}
+use Rattle.cd_members.specs.Inner.Holding.{IsPlace, AddsPlace}
 
 -- what holds of each holds of that at a place
 pub each_at : {X : Type 0} (fact : X → Type 0) (all : List X) (place : ℕ) (default : X) → AllOf fact all → place < length all
@@ -29,6 +30,22 @@ none_of_more fact members place default within before here =
 pub place_here : {X : Type 0} (fact : X → Bool → Type 0) (members : List X) (place : ℕ) (default : X) → place < length members
     → fact (get_or members place default) true → IsPlace fact members (Some place)
 place_here fact members place default within is = (get_or members place default, slice_get-get_or members place default within, is)
+
+-- so it is of the members at some places, and at one more if it is so there
+pub more_places : {X : Type 0} (fact : X → Bool → Type 0) (members : List X) (before after : List ℕ) (place : ℕ) (default : X)
+    (held : Bool) → place < length members → AllOf (IsSoAt fact members) before → fact (get_or members place default) held
+    → AddsPlace held place before after → AllOf (IsSoAt fact members) after
+more_places fact members before after place default held within are is (inl same) = subst (AllOf (IsSoAt fact members)) (sym same) are
+more_places fact members before after place default held within are is (inr (holds, more)) =
+    subst (AllOf (IsSoAt fact members)) (sym more)
+    (each_of_lists (IsSoAt fact members) before (place ∷ []) are (
+      (
+        get_or members place default,
+        slice_get-get_or members place default within,
+        subst (fact (get_or members place default)) holds is,
+      ),
+      tt,
+    ))
 
 -- what a look at a place finds
 pub looked_up : {X : Type 0} (all : List X) (place : ℕ) (found : Option (Bor X)) → IsItemAt all place found

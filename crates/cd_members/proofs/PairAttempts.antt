@@ -59,3 +59,10 @@ pair_held {ids = first ∷ second ∷ []} ready default place held = held
 pair_held {ids = []} ready default place held = absurd ready.parts
 pair_held {ids = first ∷ []} ready default place held = absurd ready.parts.1
 pair_held {ids = first ∷ second ∷ third ∷ ids} ready default place held = absurd ready.parts.1.1
+
+pub pairs_held : {graph : Graph} {table : List Thing} {wanted refused : List Pair} {given : List Pair × List Pair} {left : List Pair}
+    {ids : List ElementId} → IsReady graph table (PairTask wanted refused given left) ids → (default : ElementId) (places : List ℕ)
+    → AllOf (IsSoAt (pair_in graph (element_at table (get_or ids 0 default)) (element_at table (get_or ids 1 default))) left) places
+    → AllOf (IsHeldAt graph (map (element_at table) ids) (PairTask wanted refused given left)) places
+pairs_held ready default [] held = tt
+pairs_held ready default (place ∷ places) held = (pair_held ready default place held.0, pairs_held ready default places held.1)

@@ -99,3 +99,12 @@ xml_held {ids = []} ready default place held = absurd ready.parts
 xml_held {ids = tag ∷ []} ready default place held = absurd ready.parts.1
 xml_held {ids = tag ∷ attributes ∷ []} ready default place held = absurd ready.parts.1.1
 xml_held {ids = tag ∷ attributes ∷ content ∷ other ∷ ids} ready default place held = absurd ready.parts.1.1.1
+
+pub xmls_held : {graph : Graph} {table : List Thing} {wanted refused : List Triple} {given : List Triple × List Triple × List Triple}
+    {left : List Triple} {ids : List ElementId} → IsReady graph table (XmlTask wanted refused given left) ids
+    → (default : ElementId) (places : List ℕ)
+    → AllOf (IsSoAt (xml_in graph (element_at table (get_or ids 0 default)) (element_at table (get_or ids 1 default))
+    (element_at table (get_or ids 2 default))) left) places
+    → AllOf (IsHeldAt graph (map (element_at table) ids) (XmlTask wanted refused given left)) places
+xmls_held ready default [] held = tt
+xmls_held ready default (place ∷ places) held = (xml_held ready default place held.0, xmls_held ready default places held.1)

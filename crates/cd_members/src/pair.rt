@@ -10,12 +10,13 @@ ghost use Rattle.cd_members.specs.Facts.{AreRight};
 ghost use Rattle.cd_tasks.specs.PlainTask.{plain_task};
 ghost use Rattle.cd_tasks.specs.declared.task.Task.TheVariants.{Pair};
 ghost use Rattle.cd_members.specs.Attempts.{IsAttempt};
-ghost use Rattle.cd_members.specs.Held.{pair_in};
+ghost use Rattle.cd_members.specs.Held.{IsHeldAt, IsSoAt, pair_in};
 ghost use Rattle.cd_members.specs.Inner.Holding.{IsPlace};
 ghost use Rattle.cd_members.specs.Inner.Ready.{IsReady};
 
 use crate::Facts;
 use crate::attempt::Attempt;
+use crate::held::{add_if, looked_at};
 use crate::making::make;
 use cd_elements::{ElementId, Elements, Shape};
 use cd_graph::Graph;
@@ -72,6 +73,51 @@ fn place_of(
         }
     }
     Ok(None)
+}
+
+/// The places of the first pairs of nodes left of a task that the pair of the elements is in.
+pub(crate) fn places_of_pair(
+    graph: &Graph,
+    elements: &Elements,
+    facts: &mut Facts,
+    task: &PairTask,
+    ids: &[ElementId],
+) -> Result<Vec<usize>, AllocError>
+    requires ready { let all = table elements.now in
+        IsReady (nodes graph.now) all (plain_task (Pair task.now)) ids.now }
+    requires right { AreRight (nodes graph.now) (table elements.now) facts.old }
+    ensures held { let parts = map (element_at (table elements.now)) ids.now in IfOk result
+        (λ places. AllOf (IsHeldAt (nodes graph.now) parts (plain_task (Pair task.now)))
+        places.items) }
+    ensures right { AreRight (nodes graph.now) (table elements.now) facts.new }
+{
+    places_in(graph, elements, facts, task.left.as_slice(), ids[0], ids[1])
+}
+
+// The places of the first of these pairs of nodes that the pair of two elements is in.
+fn places_in(
+    graph: &Graph,
+    elements: &Elements,
+    facts: &mut Facts,
+    left: &[(NodeId, NodeId)],
+    first: ElementId,
+    second: ElementId,
+) -> Result<Vec<usize>, AllocError>
+    requires left { AllOf (IsPairWithin (length (nodes graph.now))) left.now }
+    requires first { Names (table elements.now) first }
+    requires second { Names (table elements.now) second }
+    requires right { AreRight (nodes graph.now) (table elements.now) facts.old }
+    ensures places { let all = table elements.now in IfOk result (λ places. AllOf
+        (IsSoAt (pair_in (nodes graph.now) (element_at all first) (element_at all second)) left.now)
+        places.items) }
+    ensures right { AreRight (nodes graph.now) (table elements.now) facts.new }
+{
+    let mut places = Vec::new(facts.allocator());
+    for place in 0..looked_at(left.len()) {
+        let held = is_in(graph, elements, facts, left[place], first, second)?;
+        add_if(held, place, &mut places)?;
+    }
+    Ok(places)
 }
 
 // Whether the pair of two elements is in a pair of nodes.

@@ -10,12 +10,13 @@ ghost use Rattle.cd_members.specs.Facts.{AreRight};
 ghost use Rattle.cd_tasks.specs.PlainTask.{plain_task};
 ghost use Rattle.cd_tasks.specs.declared.task.Task.TheVariants.{Xml};
 ghost use Rattle.cd_members.specs.Attempts.{IsAttempt};
-ghost use Rattle.cd_members.specs.Held.{xml_in};
+ghost use Rattle.cd_members.specs.Held.{IsHeldAt, IsSoAt, xml_in};
 ghost use Rattle.cd_members.specs.Inner.Holding.{IsPlace};
 ghost use Rattle.cd_members.specs.Inner.Ready.{IsReady};
 
 use crate::Facts;
 use crate::attempt::Attempt;
+use crate::held::{add_if, looked_at};
 use crate::making::make;
 use cd_elements::{ElementId, Elements, Shape};
 use cd_graph::Graph;
@@ -84,6 +85,55 @@ fn place_of(
         }
     }
     Ok(None)
+}
+
+/// The places of the first formulas left of a task that the XML element of the elements is in.
+pub(crate) fn places_of_xml(
+    graph: &Graph,
+    elements: &Elements,
+    facts: &mut Facts,
+    task: &XmlTask,
+    ids: &[ElementId],
+) -> Result<Vec<usize>, AllocError>
+    requires ready { let all = table elements.now in
+        IsReady (nodes graph.now) all (plain_task (Xml task.now)) ids.now }
+    requires right { AreRight (nodes graph.now) (table elements.now) facts.old }
+    ensures held { let parts = map (element_at (table elements.now)) ids.now in IfOk result
+        (λ places. AllOf (IsHeldAt (nodes graph.now) parts (plain_task (Xml task.now)))
+        places.items) }
+    ensures right { AreRight (nodes graph.now) (table elements.now) facts.new }
+{
+    let left = task.left.as_slice();
+    places_in(graph, elements, facts, left, ids[0], ids[1], ids[2])
+}
+
+// The places of the first of these formulas that the XML element of three elements is in.
+fn places_in(
+    graph: &Graph,
+    elements: &Elements,
+    facts: &mut Facts,
+    left: &[(NodeId, NodeId, NodeId)],
+    tag: ElementId,
+    attributes: ElementId,
+    content: ElementId,
+) -> Result<Vec<usize>, AllocError>
+    requires left { AllOf (IsXmlWithin (length (nodes graph.now))) left.now }
+    requires tag { Names (table elements.now) tag }
+    requires attributes { Names (table elements.now) attributes }
+    requires content { Names (table elements.now) content }
+    requires right { AreRight (nodes graph.now) (table elements.now) facts.old }
+    ensures places { let all = table elements.now in IfOk result (λ places. AllOf
+        (IsSoAt (xml_in (nodes graph.now) (element_at all tag) (element_at all attributes)
+        (element_at all content)) left.now) places.items) }
+    ensures right { AreRight (nodes graph.now) (table elements.now) facts.new }
+{
+    let mut places = Vec::new(facts.allocator());
+    for place in 0..looked_at(left.len()) {
+        let parts = left[place];
+        let held = is_in(graph, elements, facts, parts, tag, attributes, content)?;
+        add_if(held, place, &mut places)?;
+    }
+    Ok(places)
 }
 
 // Whether the XML element of three elements is in an XML formula of nodes.

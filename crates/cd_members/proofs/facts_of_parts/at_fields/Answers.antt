@@ -1,4 +1,4 @@
-use Rattle.std.proofs.Common.{◌≡◌, ◌∙◌, ap, sym, true, false, None}
+use Rattle.std.proofs.Common.{◌≡◌, ◌∙◌, ap, sym, true, false}
 use Rattle.cd_graph.specs.PlainFormula.{plain_named}
 use Rattle.cd_members.specs.declared.finding.Finding.{Finding}
 use Rattle.cd_members.specs.declared.finding.Finding.TheVariants.{Known, Unknown}
