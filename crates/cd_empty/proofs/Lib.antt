@@ -24,3 +24,4 @@ pub mod RunningDeciders
 pub mod OpenedQuestions
 pub mod StepsTaken
 pub mod ProgressOfRuns
+pub mod ChosenPlaces

@@ -3,6 +3,7 @@
 
 mod asked;
 mod boxes;
+mod choosing;
 mod decider;
 mod doing;
 mod frame;

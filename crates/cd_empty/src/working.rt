@@ -119,8 +119,33 @@ impl Decider {
         }
     }
 
-    // An attempt at a branch, with elements of its questions.
+    // An attempt at a branch, with elements of its questions. Of several members that hold what is
+    // made one is given of which the fewest sides are open.
     fn attempt(
+        &mut self,
+        graph: &Graph,
+        branch: &Task<'_>,
+        ids: &[ElementId],
+    ) -> Result<Attempt, AllocError>
+        requires sound { IsSound (nodes graph.now) self.old }
+        requires nodes { IsTaskOfNodes (length (nodes graph.now)) (plain_task branch.now) }
+        requires have { HaveElements self.old ids.now (questions_of (plain_task branch.now)) }
+        ensures attempt { let parts = map (element_at (table self.old)) ids.now in IfOk result
+            (IsAttempt (nodes graph.now) (table self.new) (plain_task branch.now) parts) }
+        ensures sound { IsSound (nodes graph.now) self.new }
+        ensures keeps { KeepsKnown self.old self.new }
+    {
+        match self.first_attempt(graph, branch, ids)? {
+            Attempt::Held(place) => {
+                let place = self.choose(graph, branch, ids, place)?;
+                Ok(Attempt::Held(place))
+            }
+            attempt => Ok(attempt),
+        }
+    }
+
+    // A first attempt at a branch, with elements of its questions.
+    fn first_attempt(
         &mut self,
         graph: &Graph,
         branch: &Task<'_>,
