@@ -1,5 +1,5 @@
 -- What is after a world that is after another is after the other, and a test stays right.
-use Rattle.std.proofs.Common.{◌≡◌, Bool, List, sym, subst, ◌∙◌}
+use Rattle.std.proofs.Common.{Bool, List, sym, subst, ◌∙◌}
 use Rattle.cd_sets.specs.declared.question.Question.{Question}
 use Rattle.cd_empty.specs.Seen.{Seen, graph_of}
 use Rattle.cd_empty.proofs.GrowingWorlds.{and_further}

@@ -46,6 +46,7 @@ pub(crate) fn keep_one(
 }
 
 // Whether each of these questions has an element.
+#[cycle(are_inhabited)]
 fn are_inhabited(world: &mut World, cells: &[Question]) -> Result<bool, AllocError>
     requires { AllOf (AsksNodes (length (graph_of world.old))) cells.now }
     ensures tested { IfOk result (λ answer. IsTested (graph_of world.old) cells.now answer) }
@@ -53,9 +54,49 @@ fn are_inhabited(world: &mut World, cells: &[Question]) -> Result<bool, AllocErr
 {
     match cells {
         [] => Ok(true),
-        [first, rest @ ..] => match world.decide(first)? {
-            Verdict::Empty => Ok(false),
-            Verdict::Inhabited(_) => are_inhabited(world, rest),
-        },
+        [first, rest @ ..] => {
+            if one_contradicts_itself(rest) {
+                return are_inhabited_before(world, rest, first);
+            }
+            match world.decide(first)? {
+                Verdict::Empty => Ok(false),
+                Verdict::Inhabited(_) => are_inhabited(world, rest),
+            }
+        }
     }
+}
+
+// Whether each of these questions has an element, and then one more.
+#[cycle(are_inhabited)]
+fn are_inhabited_before(
+    world: &mut World,
+    cells: &[Question],
+    last: &Question,
+) -> Result<bool, AllocError>
+    requires cells { AllOf (AsksNodes (length (graph_of world.old))) cells.now }
+    requires last { AsksNodes (length (graph_of world.old)) last.now }
+    ensures tested { IfOk result
+        (λ answer. IsTested (graph_of world.old) (last.now ∷ cells.now) answer) }
+    ensures after { IsAfter world.old world.new }
+{
+    if !are_inhabited(world, cells)? {
+        return Ok(false);
+    }
+    match world.decide(last)? {
+        Verdict::Empty => Ok(false),
+        Verdict::Inhabited(_) => Ok(true),
+    }
+}
+
+// Whether one of these questions wants a node that it refuses, so that none of the others has to be
+// decided.
+fn one_contradicts_itself(questions: &[Question]) -> bool {
+    questions
+        .iter()
+        .any(|question| contradicts_itself(question))
+}
+
+fn contradicts_itself(question: &Question) -> bool {
+    let refused = &question.neg;
+    question.pos.ids().iter().any(|id| refused.contains(*id))
 }
