@@ -11,3 +11,4 @@ pub mod DifferencesMade
 pub mod MembersLeft
 pub mod RestsMade
 pub mod LeftElements
+pub mod DisjointTags

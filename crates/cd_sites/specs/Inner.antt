@@ -2,3 +2,4 @@
 pub mod Kernels
 pub mod Differences
 pub mod Members
+pub mod Tags
