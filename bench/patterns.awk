@@ -27,5 +27,19 @@ BEGIN {
         printf "type Pairs = (Int, Int) let fun main (Pairs -> Int) %s -> 0 | (x, y) -> 0\n", row("(1, #)", " -> 0 | ")
     } else if (what == "nested") {
         printf "let fun main (Any -> Int) %sx%s -> 0 | _ -> 0\n", repeated("("), repeated(", 0)")
+    } else if (what == "alternatives") {
+        printf "let fun main (Data -> Int) [(%s)* 'a'] -> 0 | _ -> 0\n", row("x#::Int", " | ")
+    } else if (what == "intervals") {
+        printf "let fun main (Data -> Int) [(%s)* 'a'] -> 0 | _ -> 0\n", row("x::0--#", " | ")
+    } else if (what == "unions") {
+        printf "let fun main (Any -> Int) %sx%s -> 0\n", repeated("("), repeated(" & Any | x)")
+    } else if (what == "tests") {
+        printf "let fun main (Any -> Int) %s(x & Int)%s -> 0\n", repeated("("), repeated(" | x)")
+    } else if (what == "optional") {
+        printf "let fun main ([Int*] -> Data) [%s] -> 0 | _ -> 0\n", row("x#::Int?", " ")
+    } else if (what == "optional elements") {
+        printf "let fun main ([<a>_*] -> Data) [%s] -> 0 | _ -> 0\n", row("x#::<a>_?", " ")
+    } else if (what == "optional tags") {
+        printf "let fun main ([%s] -> Data) [%s] -> 0\n", row("<a#>_?", " "), row("x#::<a#>_?", " ")
     }
 }
