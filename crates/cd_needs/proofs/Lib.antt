@@ -1,2 +1,2 @@
-mod Asked
+pub mod Asked
 pub mod LabelsOfTypes

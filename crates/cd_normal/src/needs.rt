@@ -15,7 +15,7 @@ use crate::literal::Literal;
 use crate::side::{arrows, pairs, records, wanted_xmls};
 use cd_graph::fields::Fields;
 use cd_needs::asking::question;
-use cd_needs::parts::{pair_questions, xml_questions};
+use cd_parts::parts::{pair_questions, xml_questions};
 use cd_sets::node_id::NodeId;
 use cd_sets::question::Question;
 use cd_syntax::name::Name;

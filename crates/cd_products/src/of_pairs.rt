@@ -18,7 +18,7 @@ use crate::clause_box::ClauseBox;
 use crate::refused::pieces;
 use cd_empty::World;
 use cd_graph::Graph;
-use cd_needs::parts::pair_questions;
+use cd_parts::parts::pair_questions;
 use cd_normal::clause::Clause;
 use cd_normal::clauses;
 use cd_sets::node_id::NodeId;

@@ -9,7 +9,7 @@ ghost use Rattle.cd_tasks.specs.PlainTask.{plain_task};
 use crate::task::{ArrowTask, PairTask, RecordTask, Task, XmlTask};
 use cd_graph::built_in::{ATOM, RECORD};
 use cd_needs::needed_questions;
-use cd_needs::parts::{
+use cd_parts::parts::{
     arrow_questions, question_of_attributes, question_of_contents, question_of_firsts,
     question_of_seconds, question_of_tags,
 };
