@@ -12,8 +12,8 @@ use Rattle.cd_model.specs.AllOf.{AllOf}
 use Rattle.cd_matching.specs.Pattern as pattern
 use Rattle.cd_matching.specs.Pattern.{Regular, Regulars, NoRegular, ARegular}
 use Rattle.cd_matching.proofs.Falling.{is_there}
-use Rattle.cd_kernel.specs.Automaton.{Move, End, ItemOf, once, states, items_of}
-use Rattle.cd_kernel.specs.Automaton.{items_of_all}
+use Rattle.cd_moves.specs.Automaton.{Move, End, ItemOf, once, states, items_of}
+use Rattle.cd_moves.specs.Automaton.{items_of_all}
 use Rattle.cd_kernel.specs.Copies.{is_among, AreDistinct, gatherer, Copy, IsState, IsCopy}
 use Rattle.cd_kernel.specs.Making.{the_types}
 use Rattle.cd_kernel.specs.Inner.Building.{Nodes, Several, Steps, before_row, places_of}
@@ -21,13 +21,13 @@ use Rattle.cd_kernel.specs.Inner.Building.{rows_made}
 use Rattle.cd_kernel.specs.Inner.Building.{steps_of}
 use Rattle.cd_kernel.specs.Inner.Building.{put_rows, put_copy}
 use Rattle.cd_kernel.specs.Inner.Gathering.{numbered, gathering, all_gathering}
-use Rattle.cd_kernel.specs.Inner.Rows.{first_moves_row}
+use Rattle.cd_moves.specs.Inner.Rows.{first_moves_row}
 use Rattle.cd_kernel.proofs.GrowingNodes.{Keeps, Made, made_on}
 use Rattle.cd_kernel.proofs.MovesWithin.{LeadsWithin, start_within, rows_within}
 use Rattle.cd_kernel.proofs.PartsStand.{items_long, states_long}
 use Rattle.cd_kernel.proofs.RowsBuilt.{HaveNumbers, AreSteps, starts_of, starts_are_places}
 use Rattle.cd_kernel.proofs.RowsBuilt.{row_is_state, rows_are_states, row_is_made, rows_grow}
-use Rattle.cd_kernel.proofs.RowsMade.{first_moves_row_is, states_rows_are}
+use Rattle.cd_moves.proofs.RowsMade.{first_moves_row_is, states_rows_are}
 
 -- the variable of a group that gathers each item
 module _ (variables group : List Name) where

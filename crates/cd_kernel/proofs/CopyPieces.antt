@@ -21,8 +21,8 @@ use Rattle.cd_matching.specs.Pattern.{Pattern, Patterns, NoPattern, APattern, Fi
 use Rattle.cd_matching.specs.Pattern.{Regular, Regulars, NoRegular, ARegular, Sequence}
 use Rattle.cd_matching.specs.Variables.{binds, is_gathered, is_plain}
 use Rattle.cd_matching.specs.Variables.{one_is_gathered, one_is_plain, regular_binds, regulars_bind}
-use Rattle.cd_kernel.specs.Automaton.{Move, End, To, ItemOf, items_in, items_of, first_moves, once}
-use Rattle.cd_kernel.specs.Automaton.{rows_of, states}
+use Rattle.cd_moves.specs.Automaton.{Move, End, To, ItemOf, items_in, items_of, first_moves, once}
+use Rattle.cd_moves.specs.Automaton.{rows_of, states}
 use Rattle.cd_kernel.specs.Copies.{Types, AreTypes, IsAt, IsNumber, is_among, AreDistinct}
 use Rattle.cd_kernel.specs.Copies.{gatherer, Copy, in_a_group, AreDisjoint, ArePut, IsStep}
 use Rattle.cd_kernel.specs.Copies.{IsMove, IsState, IsCopy, AreJoined}

@@ -12,7 +12,7 @@ use Rattle.cd_model.proofs.ByNumber.{all_got}
 use Rattle.cd_matching.specs.Pattern as pattern
 use Rattle.cd_matching.specs.Pattern.{Regular, Regulars, NoRegular, ARegular}
 use Rattle.cd_matching.specs.Variables.{is_gathered}
-use Rattle.cd_kernel.specs.Automaton.{ItemOf, items_of, items_of_all}
+use Rattle.cd_moves.specs.Automaton.{ItemOf, items_of, items_of_all}
 use Rattle.cd_kernel.specs.Copies.{IsNumber, is_among, AreDistinct, gatherer}
 use Rattle.cd_kernel.specs.Inner.Gathering.{with_gathered, nests, one_nests, singly, groups_of}
 use Rattle.cd_kernel.specs.Inner.Gathering.{numbered}

@@ -6,7 +6,7 @@ use Rattle.std.proofs.lemmas.Option.{none-some, same_Some}
 use Rattle.cd_syntax.specs.Name.{Name}
 use Rattle.cd_matching.specs.Pattern as pattern
 use Rattle.cd_matching.specs.Pattern.{Pattern, Regular, Regulars, NoRegular, ARegular}
-use Rattle.cd_kernel.specs.Automaton.{ItemOf, items_in, items_of, items_of_all}
+use Rattle.cd_moves.specs.Automaton.{ItemOf, items_in, items_of, items_of_all}
 use Rattle.cd_kernel.proofs.PartsStand.{items_long}
 
 -- a thing of two lists one after the other

@@ -16,7 +16,7 @@ use Rattle.cd_matching.specs.Pattern.{Pattern, Patterns, NoPattern, APattern, Fi
 use Rattle.cd_matching.specs.Pattern.{Regular, Regulars, NoRegular, ARegular}
 use Rattle.cd_matching.specs.Sequences.{thing_of}
 use Rattle.cd_matching.specs.Take.{take, take_all, take_first}
-use Rattle.cd_kernel.specs.Automaton.{items_in}
+use Rattle.cd_moves.specs.Automaton.{items_in}
 use Rattle.cd_kernel.specs.Copies.{Types, IsAt}
 use Rattle.cd_kernel.specs.Making.{inner, IsPut, IsKernelOf, IsBothOf}
 use Rattle.cd_kernel.specs.Making.{IsFirstOf, AreFieldsOf, AreItemsOf, AreItemsOfAll}

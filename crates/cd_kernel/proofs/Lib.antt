@@ -29,13 +29,7 @@ pub mod BindsNoMore
 pub mod PiecesBind
 pub mod MadeIsSound
 pub mod MadeExample
-pub mod NextItem
-pub mod LastPart
-pub mod FirstMovesMade
-pub mod RowsOnce
 pub mod FieldsSorted
-pub mod RowsMade
-pub mod RowsFollowed
 pub mod MovesWithin
 pub mod GrowingNodes
 pub mod RowsBuilt

@@ -14,7 +14,7 @@ use Rattle.cd_matching.specs.Naming.{IsNamed}
 use Rattle.cd_matching.specs.Pattern.{OfType}
 use Rattle.cd_matching.specs.Variables.{binds}
 use Rattle.cd_kernel.specs.Alternatives.{HasAlternatives}
-use Rattle.cd_kernel.specs.Automaton.{Move, End, To, ItemOf, items_of, rows_of}
+use Rattle.cd_moves.specs.Automaton.{Move, End, To, ItemOf, items_of, rows_of}
 use Rattle.cd_kernel.specs.Copies.{IsNumber, is_among, gatherer, Copy, IsState, IsCopy}
 use Rattle.cd_kernel.specs.Examples.{two_gather, greedy, greedy_kernel}
 use Rattle.cd_kernel.specs.Making.{the_types, AreCopies, IsKernelOf, IsMade}

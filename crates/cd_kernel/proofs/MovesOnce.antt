@@ -6,8 +6,8 @@ use Rattle.std.specs.Option.{unwrap_or}
 use Rattle.std.proofs.lemmas.Bool.{eqb-true}
 use Rattle.cd_model.specs.Thing.{Thing}
 use Rattle.cd_matching.specs.Captures.{or_else}
-use Rattle.cd_kernel.specs.Automaton.{Move, End, To, same_move, without, once, ItemOf}
-use Rattle.cd_kernel.specs.Automaton.{by_number, run}
+use Rattle.cd_moves.specs.Automaton.{Move, End, To, same_move, without, once, ItemOf}
+use Rattle.cd_moves.specs.Automaton.{by_number, run}
 use Rattle.cd_kernel.proofs.OrElse.{or_else_again, or_else_between}
 use Rattle.cd_kernel.proofs.FirstWays.{On}
 use Rattle.cd_kernel.proofs.MovesRun.{consume, moves_on, nothing_left, run_moves}

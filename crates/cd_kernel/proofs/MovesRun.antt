@@ -12,8 +12,8 @@ use Rattle.cd_matching.specs.Captures.{Captures, or_else}
 use Rattle.cd_matching.specs.Pattern.{Pattern}
 use Rattle.cd_matching.specs.Take.{take}
 use Rattle.cd_matching.specs.Ways.{Way, Ways, still, then_, in_order, star, repeated}
-use Rattle.cd_kernel.specs.Automaton.{Move, End, To, instead, ItemOf, gathering, first_turn}
-use Rattle.cd_kernel.specs.Automaton.{by_item, by_number, run, turns}
+use Rattle.cd_moves.specs.Automaton.{Move, End, To, instead, ItemOf, gathering, first_turn}
+use Rattle.cd_moves.specs.Automaton.{by_item, by_number, run, turns}
 use Rattle.cd_kernel.specs.Inner.WaysIn.{ways_gathering, item_in}
 use Rattle.cd_kernel.proofs.OrElse.{or_else_assoc, or_else_none}
 use Rattle.cd_kernel.proofs.FirstWays.{On, after, first_on, order, after_still, first_then}

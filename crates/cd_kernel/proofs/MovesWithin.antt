@@ -8,10 +8,10 @@ use Rattle.cd_model.specs.AllOf.{AllOf}
 use Rattle.cd_matching.specs.Pattern as pattern
 use Rattle.cd_matching.specs.Pattern.{Regular, Regulars, NoRegular, ARegular}
 use Rattle.cd_matching.proofs.Falling.{is_there}
-use Rattle.cd_kernel.specs.Automaton.{Move, End, To, instead, without_end, once}
-use Rattle.cd_kernel.specs.Automaton.{items_in, items_in_all, turns, first_turn, first_moves}
-use Rattle.cd_kernel.specs.Automaton.{first_moves_in_turn, first_moves_of_one, states, states_in_turn}
-use Rattle.cd_kernel.specs.Automaton.{states_of_one, items_of, rows_of, ItemOf}
+use Rattle.cd_moves.specs.Automaton.{Move, End, To, instead, without_end, once}
+use Rattle.cd_moves.specs.Automaton.{items_in, items_in_all, turns, first_turn, first_moves}
+use Rattle.cd_moves.specs.Automaton.{first_moves_in_turn, first_moves_of_one, states, states_in_turn}
+use Rattle.cd_moves.specs.Automaton.{states_of_one, items_of, rows_of, ItemOf}
 use Rattle.cd_kernel.proofs.PartsStand.{items_long}
 use Rattle.cd_kernel.proofs.PlainVariables.{all_once}
 

@@ -10,7 +10,7 @@ use Rattle.cd_syntax.specs.declared.constant.Constant.TheVariants as constant
 use Rattle.cd_model.specs.AllOf.{AllOf, AnyOf}
 use Rattle.cd_model.specs.BuiltIns.{NIL, ANY, EMPTY}
 use Rattle.cd_matching.specs.Kernel.{KernelNode, Test, Put, Both, First, leads_to, parts_of}
-use Rattle.cd_kernel.specs.Automaton.{Move, End, To}
+use Rattle.cd_moves.specs.Automaton.{Move, End, To}
 use Rattle.cd_kernel.specs.Inner.Building.{Nodes, Chain, put, linked, chain_of, or_put, chained}
 use Rattle.cd_kernel.specs.Inner.Building.{Steps, put_empty, step, put_move, with_move_before}
 use Rattle.cd_kernel.specs.Inner.Building.{moves_chain, or_failing, put_row, put_rows}

@@ -7,9 +7,9 @@ use Rattle.cd_model.proofs.ByNumber.{got_more, got_after}
 use Rattle.cd_syntax.specs.Name.{Name}
 use Rattle.cd_matching.specs.Pattern as pattern
 use Rattle.cd_matching.specs.Pattern.{Regular, Regulars, NoRegular, ARegular}
-use Rattle.cd_kernel.specs.Automaton.{Move, instead, items_in, items_in_all, turns, first_moves}
-use Rattle.cd_kernel.specs.Automaton.{first_moves_in_turn, states, states_in_turn, states_of_one}
-use Rattle.cd_kernel.specs.Automaton.{items_of, items_of_all}
+use Rattle.cd_moves.specs.Automaton.{Move, instead, items_in, items_in_all, turns, first_moves}
+use Rattle.cd_moves.specs.Automaton.{first_moves_in_turn, states, states_in_turn, states_of_one}
+use Rattle.cd_moves.specs.Automaton.{items_of, items_of_all}
 
 -- these stand in a list from a number on
 abbrev pub Stand : {A : Type 0} → (all : List A) → ℕ → List A → Type 0

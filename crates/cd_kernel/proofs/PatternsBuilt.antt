@@ -18,7 +18,7 @@ use Rattle.cd_matching.specs.Pattern.{Regular, Regulars, NoRegular, ARegular}
 use Rattle.cd_matching.specs.Variables.{binds, all_bind, fields_bind, regular_binds}
 use Rattle.cd_matching.specs.Variables.{regulars_bind, is_gathered, one_is_gathered, is_plain}
 use Rattle.cd_matching.specs.Variables.{one_is_plain as one_has_plain, names_label}
-use Rattle.cd_kernel.specs.Automaton.{items_in, items_in_all}
+use Rattle.cd_moves.specs.Automaton.{items_in, items_in_all}
 use Rattle.cd_kernel.specs.Copies.{IsNumber, Copy}
 use Rattle.cd_kernel.specs.Making.{AreCopies}
 use Rattle.cd_kernel.specs.Making.{the_types, inner, IsPut, IsKernelOf, IsBothOf, IsFirstOf}

@@ -19,7 +19,7 @@ use Rattle.cd_matching.proofs.Falling.{is_there}
 use Rattle.cd_kernel.specs.Alternatives.{HasAlternatives, HaveAlternatives}
 use Rattle.cd_kernel.specs.Alternatives.{FieldsHaveAlternatives, RegularHasAlternatives}
 use Rattle.cd_kernel.specs.Alternatives.{RegularsHaveAlternatives}
-use Rattle.cd_kernel.specs.Automaton.{items_of}
+use Rattle.cd_moves.specs.Automaton.{items_of}
 use Rattle.cd_kernel.specs.Making.{the_types, inner}
 use Rattle.cd_kernel.specs.Parts as part
 use Rattle.cd_kernel.specs.Parts.{IsPart}

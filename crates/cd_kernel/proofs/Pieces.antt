@@ -17,7 +17,7 @@ use Rattle.cd_matching.specs.Pattern.{Pattern, Patterns}
 use Rattle.cd_matching.specs.Pattern.{Regular, Sequence}
 use Rattle.cd_matching.specs.Sequences.{thing_of}
 use Rattle.cd_matching.specs.Variables.{binds, all_bind, is_gathered, is_plain}
-use Rattle.cd_kernel.specs.Automaton.{Move, items_of}
+use Rattle.cd_moves.specs.Automaton.{Move, items_of}
 use Rattle.cd_kernel.specs.Copies.{Types, IsAt, IsNumber, is_among, AreDistinct, Copy}
 use Rattle.cd_kernel.specs.Copies.{AreDisjoint, ArePut, IsMove}
 use Rattle.cd_kernel.specs.Copies.{IsState, IsCopy, AreJoined}

@@ -22,8 +22,8 @@ use Rattle.cd_matching.specs.Pattern.{Regular, Regulars, NoRegular, ARegular, Se
 use Rattle.cd_matching.specs.Variables.{binds, all_bind, fields_bind, is_gathered, is_plain}
 use Rattle.cd_matching.specs.Variables.{regular_binds}
 use Rattle.cd_matching.proofs.BoundVariables.{gathered_or_plain}
-use Rattle.cd_kernel.specs.Automaton.{Move, End, To, ItemOf, items_in, items_of, first_moves, once}
-use Rattle.cd_kernel.specs.Automaton.{rows_of}
+use Rattle.cd_moves.specs.Automaton.{Move, End, To, ItemOf, items_in, items_of, first_moves, once}
+use Rattle.cd_moves.specs.Automaton.{rows_of}
 use Rattle.cd_kernel.specs.Copies as copies
 use Rattle.cd_kernel.specs.Copies.{Types, AreTypes, IsAt, IsNumber, is_among, gatherer, Copy}
 use Rattle.cd_kernel.specs.Copies.{in_a_group, ArePut, IsStep, IsMove, IsState, AreJoined}

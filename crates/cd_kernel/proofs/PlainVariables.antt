@@ -15,10 +15,10 @@ use Rattle.cd_matching.specs.Naming.{AreNamedEither, AreNamedLike}
 use Rattle.cd_matching.specs.Pattern as pattern
 use Rattle.cd_matching.specs.Pattern.{Pattern, Regular, Regulars, NoRegular, ARegular}
 use Rattle.cd_matching.specs.Variables.{binds, is_plain, one_is_plain}
-use Rattle.cd_kernel.specs.Automaton.{Move, End, To, same_move, instead, without_end, without}
-use Rattle.cd_kernel.specs.Automaton.{once, items_in, items_in_all, turns, first_turn, first_moves}
-use Rattle.cd_kernel.specs.Automaton.{first_moves_in_turn, first_moves_of_one, states, states_in_turn}
-use Rattle.cd_kernel.specs.Automaton.{states_of_one, ItemOf, items_of, items_of_all, rows_of}
+use Rattle.cd_moves.specs.Automaton.{Move, End, To, same_move, instead, without_end, without}
+use Rattle.cd_moves.specs.Automaton.{once, items_in, items_in_all, turns, first_turn, first_moves}
+use Rattle.cd_moves.specs.Automaton.{first_moves_in_turn, first_moves_of_one, states, states_in_turn}
+use Rattle.cd_moves.specs.Automaton.{states_of_one, ItemOf, items_of, items_of_all, rows_of}
 use Rattle.cd_kernel.proofs.ItemsByNumber.{get_split}
 use Rattle.cd_kernel.proofs.PartsStand.{Stand, stand_whole, first_stands, stand_left, stand_right}
 use Rattle.cd_kernel.proofs.PartsStand.{items_long, states_long}

@@ -12,7 +12,7 @@ use Rattle.cd_syntax.specs.declared.constant.Constant.TheVariants as constant
 use Rattle.cd_model.specs.AllOf.{AllOf}
 use Rattle.cd_model.specs.BuiltIns.{NIL, ANY, EMPTY}
 use Rattle.cd_matching.specs.Kernel.{KernelNode, Test, Put, Both, First, leads_to}
-use Rattle.cd_kernel.specs.Automaton.{Move, End, To, ItemOf}
+use Rattle.cd_moves.specs.Automaton.{Move, End, To, ItemOf}
 use Rattle.cd_kernel.specs.Copies.{IsNumber, is_among, gatherer, Copy, ArePut, IsStep, IsMove}
 use Rattle.cd_kernel.specs.Copies.{IsState}
 use Rattle.cd_kernel.specs.Making.{the_types}

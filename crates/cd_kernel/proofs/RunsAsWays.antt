@@ -10,9 +10,9 @@ use Rattle.cd_matching.specs.Pattern as pattern
 use Rattle.cd_matching.specs.Pattern.{Pattern, Regular, Regulars, NoRegular, ARegular}
 use Rattle.cd_matching.specs.Take.{Taking, take}
 use Rattle.cd_matching.specs.Ways.{Ways, then_}
-use Rattle.cd_kernel.specs.Automaton.{Move, instead, ItemOf, items_in, first_moves, first_moves_in_turn}
-use Rattle.cd_kernel.specs.Automaton.{first_moves_of_one, states, states_in_turn, states_of_one}
-use Rattle.cd_kernel.specs.Automaton.{items_of, items_of_all, turns}
+use Rattle.cd_moves.specs.Automaton.{Move, instead, ItemOf, items_in, first_moves, first_moves_in_turn}
+use Rattle.cd_moves.specs.Automaton.{first_moves_of_one, states, states_in_turn, states_of_one}
+use Rattle.cd_moves.specs.Automaton.{items_of, items_of_all, turns}
 use Rattle.cd_kernel.specs.Inner.WaysIn.{ways_gathering, item_in, ways_in, turn_in, one_in}
 use Rattle.cd_model.proofs.Covered.{each_both}
 use Rattle.cd_kernel.proofs.FirstWays.{first_on, first_append, first_then, first_same}

@@ -7,8 +7,8 @@ use Rattle.cd_matching.specs.Naming.{GathersDisjoint}
 use Rattle.cd_matching.specs.Pattern.{Regular}
 use Rattle.cd_matching.specs.Take.{ways}
 use Rattle.cd_matching.specs.Ways.{Way, still, followed, if_whole, first_whole}
-use Rattle.cd_kernel.specs.Automaton.{End, once, first_moves, states, items_of}
-use Rattle.cd_kernel.specs.Automaton.{run_whole}
+use Rattle.cd_moves.specs.Automaton.{End, once, first_moves, states, items_of}
+use Rattle.cd_moves.specs.Automaton.{run_whole}
 use Rattle.cd_kernel.specs.Inner.WaysIn.{ways_in}
 use Rattle.cd_kernel.proofs.OrElse.{or_else_none}
 use Rattle.cd_kernel.proofs.FirstWays.{after, onward, first_on, first_same}

@@ -11,7 +11,7 @@ use Rattle.cd_matching.specs.Kernel.{KernelNode, Both}
 use Rattle.cd_matching.specs.Naming.{GathersDisjoint}
 use Rattle.cd_matching.specs.Pattern.{Regular}
 use Rattle.cd_matching.specs.Variables.{is_gathered}
-use Rattle.cd_kernel.specs.Automaton.{items_of}
+use Rattle.cd_moves.specs.Automaton.{items_of}
 use Rattle.cd_kernel.specs.Copies.{IsNumber, is_among, Copy, in_a_group, one_is_plain}
 use Rattle.cd_kernel.specs.Copies.{AreDisjoint, IsCopy, AreJoined}
 use Rattle.cd_kernel.specs.Making.{the_types, inner, AreCopies, AreItemsOf}

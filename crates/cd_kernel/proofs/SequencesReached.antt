@@ -8,13 +8,13 @@ use Rattle.cd_model.specs.AllOf.{AllOf, AnyOf}
 use Rattle.cd_model.specs.BuiltIns.{ANY}
 use Rattle.cd_matching.specs.Kernel.{KernelNode, Both, leads_to, parts_of}
 use Rattle.cd_matching.specs.Pattern.{Regular}
-use Rattle.cd_kernel.specs.Automaton.{items_of}
+use Rattle.cd_moves.specs.Automaton.{items_of}
 use Rattle.cd_kernel.specs.Copies.{Copy, AreJoined}
 use Rattle.cd_kernel.specs.Making.{the_types}
 use Rattle.cd_kernel.specs.Inner.Building.{Several, Nodes, rows_made, steps_of, put_copy}
 use Rattle.cd_kernel.specs.Inner.Building.{put_rows, put_copies, put_sequence}
 use Rattle.cd_kernel.specs.Inner.Gathering.{groups_of}
-use Rattle.cd_kernel.specs.Inner.Rows.{first_moves_row}
+use Rattle.cd_moves.specs.Inner.Rows.{first_moves_row}
 use Rattle.cd_kernel.proofs.CopiesBuilt.{copy_put, copy_is_made, states_count}
 use Rattle.cd_kernel.proofs.CopiesBuilt.{starts_are_states}
 use Rattle.cd_kernel.proofs.GrowingNodes.{Keeps}

@@ -16,7 +16,7 @@ use Rattle.cd_matching.specs.Take.{captures_of, take_items}
 use Rattle.cd_matching.specs.Take.{ways}
 use Rattle.cd_matching.specs.Variables.{is_gathered}
 use Rattle.cd_matching.specs.Ways.{Way}
-use Rattle.cd_kernel.specs.Automaton.{first_moves, once, run_whole}
+use Rattle.cd_moves.specs.Automaton.{first_moves, once, run_whole}
 use Rattle.cd_kernel.specs.Copies.{Types, is_among, Copy, in_a_group, one_is_plain, IsCopy}
 use Rattle.cd_kernel.specs.Copies.{AreJoined}
 use Rattle.cd_kernel.specs.Making.{inner, AreCopies}

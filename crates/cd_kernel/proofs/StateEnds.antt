@@ -11,9 +11,9 @@ use Rattle.cd_syntax.specs.declared.type_tree.Post.TheVariants as post
 use Rattle.cd_model.specs.AllOf.{AnyOf}
 use Rattle.cd_matching.specs.Pattern as pattern
 use Rattle.cd_matching.specs.Pattern.{Regular, Regulars, NoRegular, ARegular}
-use Rattle.cd_kernel.specs.Automaton.{Move, End, To, same_move, instead, without_end, without}
-use Rattle.cd_kernel.specs.Automaton.{once, items_in, turns, first_moves, first_moves_in_turn, first_moves_of_one}
-use Rattle.cd_kernel.specs.Automaton.{states, states_in_turn, states_of_one}
+use Rattle.cd_moves.specs.Automaton.{Move, End, To, same_move, instead, without_end, without}
+use Rattle.cd_moves.specs.Automaton.{once, items_in, turns, first_moves, first_moves_in_turn, first_moves_of_one}
+use Rattle.cd_moves.specs.Automaton.{states, states_in_turn, states_of_one}
 use Rattle.cd_kernel.specs.Alternatives.{HasAlternative}
 use Rattle.cd_kernel.proofs.CompletePatterns.{IsCompleteRegular, AreCompleteRegulars}
 use Rattle.cd_kernel.proofs.ItemsByNumber.{get_split}

@@ -19,8 +19,8 @@ use Rattle.cd_matching.specs.Sequences.{nil, sequence_of, items, is_no_item}
 use Rattle.cd_matching.specs.Take.{take}
 use Rattle.cd_matching.specs.Ways.{Way, still}
 use Rattle.cd_matching.proofs.Unfolding.{unfolds}
-use Rattle.cd_kernel.specs.Automaton.{Move, End, To, same_move, ItemOf, items_of, rows_of}
-use Rattle.cd_kernel.specs.Automaton.{by_item, by_number, run}
+use Rattle.cd_moves.specs.Automaton.{Move, End, To, same_move, ItemOf, items_of, rows_of}
+use Rattle.cd_moves.specs.Automaton.{by_item, by_number, run}
 use Rattle.cd_kernel.specs.Copies.{Types, IsAt, is_among, gatherer, Copy, ArePut}
 use Rattle.cd_kernel.specs.Copies.{IsStep, IsMove, IsState, IsCopy}
 use Rattle.cd_kernel.proofs.CapturesByName.{named, gathered_name, named_both, named_or, named_so}

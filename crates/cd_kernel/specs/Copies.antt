@@ -9,7 +9,7 @@ use Rattle.cd_syntax.specs.Name.{Name}
 use Rattle.cd_syntax.specs.declared.constant.Constant.TheVariants as constant
 use Rattle.cd_matching.specs.Kernel.{KernelNode, Test, Put, Pair, Both, First, Gather, number_of}
 use Rattle.cd_matching.specs.Pattern.{Regular}
-use Rattle.cd_kernel.specs.Automaton.{Move, End, To, ItemOf, once, first_moves, items_of, rows_of}
+use Rattle.cd_moves.specs.Automaton.{Move, End, To, ItemOf, once, first_moves, items_of, rows_of}
 
 -- the types of the empty sequence, of all things and of none
 pub record Types (T : Type 0) : Type 0 where

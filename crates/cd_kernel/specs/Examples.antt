@@ -13,7 +13,7 @@ use Rattle.cd_matching.specs.Pattern.{Pattern, OfType, Bind, Both, Sequence, pat
 use Rattle.cd_matching.specs.Pattern.{Item, Seq, Alt, Repeat, Capture, regulars_of}
 use Rattle.cd_matching.specs.Take.{ways}
 use Rattle.cd_matching.specs.Ways.{Way, first_whole}
-use Rattle.cd_kernel.specs.Automaton.{run_whole}
+use Rattle.cd_moves.specs.Automaton.{run_whole}
 
 -- types as tests of things
 abbrev pub Test : Type 0

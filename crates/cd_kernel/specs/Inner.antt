@@ -1,7 +1,5 @@
 -- What serves proofs and private functions. No public clause speaks of it.
 pub mod WaysIn
-pub mod PlainMoves
-pub mod Rows
 pub mod Completed
 pub mod Gathering
 pub mod Building

@@ -1,6 +1,5 @@
 pub mod Labelled
 pub mod Alternatives
-pub mod Automaton
 pub mod Inner
 pub mod Examples
 pub mod Copies

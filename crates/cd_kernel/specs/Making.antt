@@ -18,7 +18,7 @@ use Rattle.cd_matching.specs.Pattern.{Regular, Regulars, NoRegular, ARegular}
 use Rattle.cd_matching.specs.Sequences.{items, is_no_item}
 use Rattle.cd_matching.specs.Take.{take}
 use Rattle.cd_matching.specs.Variables.{is_gathered}
-use Rattle.cd_kernel.specs.Automaton.{items_in}
+use Rattle.cd_moves.specs.Automaton.{items_in}
 use Rattle.cd_kernel.specs.Copies.{Types, IsAt, IsNumber, Copy, in_a_group, one_is_plain}
 use Rattle.cd_kernel.specs.Copies.{AreDisjoint, IsCopy, AreJoined}
 

@@ -8,7 +8,7 @@ use Rattle.cd_matching.specs.Naming.{IsNamed}
 use Rattle.cd_matching.specs.Pattern.{Pattern, Regular, Sequence}
 use Rattle.cd_matching.specs.Variables.{binds}
 use Rattle.cd_kernel.specs.Alternatives.{HasAlternatives}
-use Rattle.cd_kernel.specs.Automaton.{ItemOf, items_of}
+use Rattle.cd_moves.specs.Automaton.{ItemOf, items_of}
 use Rattle.cd_kernel.specs.Copies.{Types, IsAt, IsNumber, Copy}
 use Rattle.cd_kernel.specs.Making.{inner, AreCopies, IsKernelOf, AreItemsOf}
 use Rattle.cd_kernel.specs.WellMade.{IsWellMade}

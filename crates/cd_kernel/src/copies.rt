@@ -2,18 +2,18 @@
 ghost use Rattle.std.specs.Prelude.{◌≡◌, ◌<◌, ◌^◌, None, map, IfOk};
 ghost use Rattle.cd_matching.specs.PlainKernel.{plain_nodes};
 ghost use Rattle.cd_matching.specs.PlainPattern.{plain_regular};
-ghost use Rattle.cd_kernel.specs.Automaton.{items_in};
+ghost use Rattle.cd_moves.specs.Automaton.{items_in};
 ghost use Rattle.cd_kernel.specs.Inner.Building.{put_copy, steps_of, put_row, put_rows};
 ghost use Rattle.cd_kernel.specs.Inner.Gathering.{numbered, gathering};
 ghost use Rattle.cd_kernel.specs.Inner.PlainGroups.{plain_group};
 ghost use Rattle.cd_kernel.specs.Inner.PlainSteps.{plain_steps};
 ghost use Rattle.cd_kernel.specs.Inner.Plans.{IsPlanOf};
-ghost use Rattle.cd_kernel.specs.Inner.Rows.{plain_row, plain_rows};
+ghost use Rattle.cd_moves.specs.Inner.Rows.{plain_row, plain_rows};
 
 use crate::count::count;
-use crate::first_moves::first_moves;
+use cd_moves::first_moves::first_moves;
 use crate::gathering::{Group, add_gathering};
-use crate::moves::{Move, Moves};
+use cd_moves::moves::{Move, Moves};
 use crate::names::number;
 use crate::rows::{Steps, places, put_row, put_rows};
 use crate::states::add_states;

@@ -3,7 +3,7 @@ ghost use Rattle.std.specs.Prelude.{◌<◌, ◌^◌, SomeIff};
 ghost use Rattle.cd_matching.specs.Pattern.{regulars_of};
 ghost use Rattle.cd_matching.specs.PlainPattern.{plain_regular};
 ghost use Rattle.std.specs.Prelude.{map};
-ghost use Rattle.cd_kernel.specs.Automaton.{items_in, items_in_all};
+ghost use Rattle.cd_moves.specs.Automaton.{items_in, items_in_all};
 
 use cd_matching::pattern::RegPat;
 

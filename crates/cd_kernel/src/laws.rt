@@ -9,7 +9,7 @@ ghost use Rattle.cd_matching.specs.Pattern.{Pattern, Regular};
 ghost use Rattle.cd_matching.specs.Take.{ways};
 ghost use Rattle.cd_matching.specs.Ways.{first_whole};
 ghost use Rattle.cd_kernel.specs.Alternatives.{HasAlternatives};
-ghost use Rattle.cd_kernel.specs.Automaton.{run_whole};
+ghost use Rattle.cd_moves.specs.Automaton.{run_whole};
 ghost use Rattle.cd_kernel.specs.Examples as example;
 ghost use Rattle.cd_kernel.specs.Examples.{both_ways, number, truth};
 ghost use Rattle.cd_kernel.specs.Making.{the_types, IsMade, TakesAlike};

@@ -8,11 +8,11 @@ ghost use Rattle.cd_kernel.specs.Inner.Building.{with_move_before, moves_chain, 
 ghost use Rattle.cd_kernel.specs.Inner.Building.{put_rows};
 ghost use Rattle.cd_kernel.specs.Inner.Building.{before_move, of_moves, before_row, places_of};
 ghost use Rattle.cd_kernel.specs.Inner.PlainSteps.{plain_steps};
-ghost use Rattle.cd_kernel.specs.Inner.PlainMoves.{plain_move, plain_moves};
-ghost use Rattle.cd_kernel.specs.Inner.Rows.{plain_row, plain_rows};
+ghost use Rattle.cd_moves.specs.Inner.PlainMoves.{plain_move, plain_moves};
+ghost use Rattle.cd_moves.specs.Inner.Rows.{plain_row, plain_rows};
 
 use crate::chain::put;
-use crate::moves::{Move, Moves};
+use cd_moves::moves::{Move, Moves};
 use cd_graph::built_in::{ANY, EMPTY, NIL};
 use cd_matching::kernel::KernelNode;
 use cd_sets::node_id::NodeId;

@@ -2,13 +2,13 @@
 ghost use Rattle.std.specs.Prelude.{◌≡◌, ◌+◌, ◌<◌, ◌^◌, ◌++◌, ◌∷◌, [], map, IfOk, OnOk};
 ghost use Rattle.cd_matching.specs.Pattern.{regulars_of};
 ghost use Rattle.cd_matching.specs.PlainPattern.{plain_regular};
-ghost use Rattle.cd_kernel.specs.Automaton.{items_in, items_in_all};
-ghost use Rattle.cd_kernel.specs.Inner.Rows.{plain_rows, plain_row, followed, turns_row};
-ghost use Rattle.cd_kernel.specs.Inner.Rows.{first_moves_row, rows_back, rows_back_in_turn};
-ghost use Rattle.cd_kernel.specs.Inner.Rows.{rows_back_of_one};
+ghost use Rattle.cd_moves.specs.Automaton.{items_in, items_in_all};
+ghost use Rattle.cd_moves.specs.Inner.Rows.{plain_rows, plain_row, followed, turns_row};
+ghost use Rattle.cd_moves.specs.Inner.Rows.{first_moves_row, rows_back, rows_back_in_turn};
+ghost use Rattle.cd_moves.specs.Inner.Rows.{rows_back_of_one};
 
-use crate::first_moves::{first_moves, followed, items_in, items_in_all, turns};
-use crate::moves::Moves;
+use cd_moves::first_moves::{first_moves, followed, items_in, items_in_all, turns};
+use cd_moves::moves::Moves;
 use cd_matching::pattern::RegPat;
 use cd_syntax::type_tree::Post;
 use std::alloc::{AllocError, Global};

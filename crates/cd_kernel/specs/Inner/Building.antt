@@ -15,9 +15,9 @@ use Rattle.cd_matching.specs.Kernel.{Pair, Xml, Record, Both, First, Gather}
 use Rattle.cd_matching.specs.Pattern as pattern
 use Rattle.cd_matching.specs.Pattern.{Pattern, Patterns, NoPattern, APattern, Fields, NoField}
 use Rattle.cd_matching.specs.Pattern.{Regular, Regulars, NoRegular, ARegular}
-use Rattle.cd_kernel.specs.Automaton.{Move, End, To}
+use Rattle.cd_moves.specs.Automaton.{Move, End, To}
 use Rattle.cd_kernel.specs.Inner.Gathering.{numbered, groups_of, gathering, with_variables}
-use Rattle.cd_kernel.specs.Inner.Rows.{first_moves_row, rows_back}
+use Rattle.cd_moves.specs.Inner.Rows.{first_moves_row, rows_back}
 
 abbrev pub Nodes : Type 0
 Nodes = List (KernelNode NodeId)

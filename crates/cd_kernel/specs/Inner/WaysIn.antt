@@ -7,7 +7,7 @@ use Rattle.cd_matching.specs.Pattern as pattern
 use Rattle.cd_matching.specs.Pattern.{Regular, Regulars, NoRegular, ARegular}
 use Rattle.cd_matching.specs.Take.{Taking, take}
 use Rattle.cd_matching.specs.Ways.{Way, Ways, still, then_, repeated}
-use Rattle.cd_kernel.specs.Automaton.{gathering}
+use Rattle.cd_moves.specs.Automaton.{gathering}
 
 -- the way, if there is one, that takes the first of the things
 abbrev pub ways_gathering : List Name → Thing → List Thing → Option (Captures Name) → List Way

@@ -1,9 +1,9 @@
 use Rattle.std.proofs.Common.{◌∙◌, ap, ap₂, reverse, List, ◌++◌}
-use Rattle.cd_kernel.specs.Automaton.{Move}
-use Rattle.cd_kernel.specs.declared.moves.Moves.{Moves as CodeMoves}
+use Rattle.cd_moves.specs.Automaton.{Move}
+use Rattle.cd_moves.specs.declared.moves.Moves.{Moves as CodeMoves}
 use Rattle.cd_matching.specs.PlainPattern.{plain_regular}
-use Rattle.cd_kernel.specs.Inner.Rows.{plain_rows, rows_back}
-use Rattle.cd_kernel.proofs.LastPart.{rows_turned}
+use Rattle.cd_moves.specs.Inner.Rows.{plain_rows, rows_back}
+use Rattle.cd_moves.proofs.LastPart.{rows_turned}
 use Rattle.cd_kernel.proofs.copies.plan_of.Goals as goal
 
 -- the rows were made from the last one on

@@ -1,7 +1,7 @@
 use Rattle.std.proofs.Common.{◌≡◌, ◌+◌, ◌<◌, ◌^◌, drop, map}
 use Rattle.cd_matching.specs.Pattern.{regulars_of}
 use Rattle.cd_matching.specs.PlainPattern.{plain_regular}
-use Rattle.cd_kernel.specs.Automaton.{items_in_all}
+use Rattle.cd_moves.specs.Automaton.{items_in_all}
 use Rattle.cd_kernel.proofs.count.+count.Given as goal
 
 -- those that are counted and those that are left are all

@@ -2,7 +2,7 @@ use Rattle.std.proofs.Common.{◌≡◌, ◌≤◌, length, drop}
 use Rattle.cd_matching.specs.PlainKernel.{plain_nodes}
 use Rattle.cd_kernel.specs.Inner.Building.{moves_chain}
 use Rattle.cd_kernel.specs.Inner.PlainSteps.{plain_steps}
-use Rattle.cd_kernel.specs.Inner.PlainMoves.{plain_moves}
+use Rattle.cd_moves.specs.Inner.PlainMoves.{plain_moves}
 use Rattle.cd_kernel.proofs.rows.moves_chain.Given as goal
 
 -- the moves that were gone over

@@ -1,6 +1,6 @@
 use Rattle.std.proofs.Common.{◌≡◌, ◌+◌, drop}
 use Rattle.cd_kernel.specs.Inner.Building.{of_moves}
-use Rattle.cd_kernel.specs.Inner.PlainMoves.{plain_moves}
+use Rattle.cd_moves.specs.Inner.PlainMoves.{plain_moves}
 use Rattle.cd_kernel.proofs.rows.of_moves.Given as goal
 
 -- those that were gone over, and those that are left

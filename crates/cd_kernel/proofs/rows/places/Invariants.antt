@@ -1,6 +1,6 @@
 use Rattle.std.proofs.Common.{◌≡◌, ◌++◌, drop}
 use Rattle.cd_kernel.specs.Inner.Building.{places_of}
-use Rattle.cd_kernel.specs.Inner.Rows.{plain_rows}
+use Rattle.cd_moves.specs.Inner.Rows.{plain_rows}
 use Rattle.cd_kernel.proofs.rows.places.Given as goal
 
 -- those that were gone over, and those that are left

@@ -2,7 +2,7 @@ use Rattle.std.proofs.Common.{◌≡◌, drop}
 use Rattle.cd_matching.specs.PlainKernel.{plain_nodes}
 use Rattle.cd_kernel.specs.Inner.Building.{put_rows}
 use Rattle.cd_kernel.specs.Inner.PlainSteps.{plain_steps}
-use Rattle.cd_kernel.specs.Inner.Rows.{plain_rows}
+use Rattle.cd_moves.specs.Inner.Rows.{plain_rows}
 use Rattle.cd_kernel.proofs.rows.put_rows.Given as goal
 
 -- with the rows that are left the nodes become those of all

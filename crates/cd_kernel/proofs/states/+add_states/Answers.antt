@@ -1,9 +1,9 @@
 use Rattle.std.proofs.Common.{◌-◌, refl, ap, arith}
 use Rattle.cd_matching.specs.PlainPattern.{plain_regular}
-use Rattle.cd_kernel.specs.Automaton.{items_in, items_in_all}
-use Rattle.cd_kernel.specs.Inner.Rows.{plain_rows, plain_row, first_moves_row}
-use Rattle.cd_kernel.proofs.LastPart.{parts_left, one_more_left, left_are_fewer, after_step}
-use Rattle.cd_kernel.proofs.LastPart.{in_turn_step, of_one_step, before_part}
+use Rattle.cd_moves.specs.Automaton.{items_in, items_in_all}
+use Rattle.cd_moves.specs.Inner.Rows.{plain_rows, plain_row, first_moves_row}
+use Rattle.cd_moves.proofs.LastPart.{parts_left, one_more_left, left_are_fewer, after_step}
+use Rattle.cd_moves.proofs.LastPart.{in_turn_step, of_one_step, before_part}
 use Rattle.cd_kernel.proofs.states.+add_states.Goals as goal
 
 -- one of those that are left has no more items than all of them

@@ -1,9 +1,9 @@
 use Rattle.std.proofs.Common.{◌≡◌, ◌+◌, ◌≤◌, ◌++◌, length, drop, map}
 use Rattle.cd_matching.specs.Pattern.{regulars_of}
 use Rattle.cd_matching.specs.PlainPattern.{plain_regular}
-use Rattle.cd_kernel.specs.Automaton.{items_in_all}
-use Rattle.cd_kernel.specs.Inner.Rows.{plain_rows, plain_row, after_row, rows_back_in_turn}
-use Rattle.cd_kernel.specs.Inner.Rows.{rows_back_of_one}
+use Rattle.cd_moves.specs.Automaton.{items_in_all}
+use Rattle.cd_moves.specs.Inner.Rows.{plain_rows, plain_row, after_row, rows_back_in_turn}
+use Rattle.cd_moves.specs.Inner.Rows.{rows_back_of_one}
 use Rattle.cd_kernel.proofs.states.+add_states.Given as goal
 
 -- the rows of those that were gone over

@@ -1,9 +1,0 @@
-use Rattle.std.proofs.Common.{◌≡◌, drop}
-use Rattle.cd_kernel.specs.Inner.PlainMoves.{plain_moves}
-use Rattle.cd_kernel.specs.Inner.Rows.{plain_row, added}
-use Rattle.cd_kernel.proofs.moves.Moves.add_all.Given as goal
-
--- with those that are left the row becomes what it is to become
-abbrev pub invariant-loop-one : goal.invariant-loop-one
-invariant-loop-one l = added (plain_row l.self) (plain_moves (drop l.one-index l.more.moves.items))
-    ≡ added (plain_row l.fn.self) (plain_row l.more)

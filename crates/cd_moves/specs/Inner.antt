@@ -1,0 +1,3 @@
+-- What serves proofs and private functions. No public clause speaks of it.
+pub mod PlainMoves
+pub mod Rows
