@@ -3,7 +3,7 @@ use Rattle.std.proofs.Common.{◌≡◌, List, [], ◌++◌, length, inl, inr, r
 use Rattle.cd_sets.specs.declared.question.Question.{Question}
 use Rattle.cd_model.specs.AllOf.{AllOf, AnyOf}
 use Rattle.cd_model.specs.Formula.{Graph}
-use Rattle.cd_members.specs.Facts.{AreRight}
+use Rattle.cd_facts.specs.Facts.{AreRight}
 use Rattle.cd_rules.specs.Family.{AsksNodes, IsClosed}
 use Rattle.cd_model.proofs.Ones.{each_of_lists, one_on_left, one_on_right}
 use Rattle.cd_rules.specs.Machine.{IsWitness, NotIn}

@@ -8,7 +8,7 @@ use Rattle.cd_rules.specs.Family.{AsksNodes, IsClosed}
 use Rattle.cd_model.proofs.Ones.{each_of_lists}
 use Rattle.cd_elements.specs.declared.shape.ElementId.{ElementId}
 use Rattle.cd_elements.specs.Table.{Names, element_at}
-use Rattle.cd_members.specs.Facts.{AreRight}
+use Rattle.cd_facts.specs.Facts.{AreRight}
 use Rattle.cd_rules.specs.Machine.{IsWitness, NotIn}
 use Rattle.cd_rules.specs.Right.{Differ}
 use Rattle.cd_empty.specs.declared.decider.Decider.{Decider}

@@ -8,8 +8,8 @@ use Rattle.cd_model.specs.Membership.{answers}
 use Rattle.cd_model.specs.Thing.{Thing}
 use Rattle.cd_model.proofs.Extending.{kept_elements}
 use Rattle.cd_elements.specs.Table.{element_at}
-use Rattle.cd_members.specs.Facts.{AreRight}
-use Rattle.cd_members.proofs.FactsKept.{right_in_more}
+use Rattle.cd_facts.specs.Facts.{AreRight}
+use Rattle.cd_facts.proofs.FactsKept.{right_in_more}
 use Rattle.cd_rules.specs.Machine.{Witness, IsWitness}
 use Rattle.cd_rules.specs.Family.{AsksNodes}
 use Rattle.cd_rules.proofs.ClosedStays.{closed_stays}

@@ -8,7 +8,7 @@ use Rattle.cd_model.specs.Membership.{answers}
 use Rattle.cd_model.specs.Thing.{Thing, Atom, Function}
 use Rattle.cd_elements.specs.declared.shape.ElementId.{ElementId}
 use Rattle.cd_elements.specs.Table.{Names, IsResult, element_at, result_at, pairs_of}
-use Rattle.cd_members.specs.Facts.{Fact, IsRight, AreRight}
+use Rattle.cd_facts.specs.Facts.{Fact, IsRight, AreRight}
 use Rattle.cd_model.proofs.Ones.{each_weaker}
 use Rattle.cd_empty.specs.declared.verdict.Verdict.{Verdict}
 use Rattle.cd_empty.specs.declared.verdict.Verdict.TheVariants.{Empty, Inhabited}

@@ -5,7 +5,7 @@ use Rattle.cd_sets.specs.declared.question.Question.{Question}
 use Rattle.cd_model.specs.AllOf.{AllOf}
 use Rattle.cd_model.specs.Formula.{Graph}
 use Rattle.cd_model.specs.Thing.{Thing, Pairs}
-use Rattle.cd_members.specs.Facts.{Fact, AreRight}
+use Rattle.cd_facts.specs.Facts.{Fact, AreRight}
 use Rattle.cd_rules.specs.Machine.{IsWitness}
 use Rattle.cd_rules.specs.Right.{Differ, IsWorkOf}
 use Rattle.cd_normal.specs.PlainClause.{plain_clause}

@@ -6,7 +6,7 @@ use Rattle.cd_model.specs.AllOf.{AllOf}
 use Rattle.cd_model.specs.Formula.{Graph}
 use Rattle.cd_elements.specs.Elements as elements
 use Rattle.cd_elements.specs.Table.{Names, element_at}
-use Rattle.cd_members.specs.Facts.{AreRight}
+use Rattle.cd_facts.specs.Facts.{AreRight}
 use Rattle.cd_rules.specs.Machine.{Witness, IsWitness}
 use Rattle.cd_rules.specs.Right.{Differ}
 use Rattle.cd_rules.specs.Family.{AsksNodes, IsClosed}

@@ -9,8 +9,8 @@ use crate::asked::Asked;
 use crate::verdict::Verdict;
 use crate::verdicts::Verdicts;
 use cd_elements::Elements;
+use cd_facts::Facts;
 use cd_graph::Graph;
-use cd_members::Facts;
 use cd_sets::question::Question;
 use std::alloc::{AllocError, Global};
 

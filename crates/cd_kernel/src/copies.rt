@@ -11,14 +11,14 @@ ghost use Rattle.cd_kernel.specs.Inner.Plans.{IsPlanOf};
 ghost use Rattle.cd_moves.specs.Inner.Rows.{plain_row, plain_rows};
 
 use crate::count::count;
-use cd_moves::first_moves::first_moves;
 use crate::gathering::{Group, add_gathering};
-use cd_moves::moves::{Move, Moves};
 use crate::names::number;
 use crate::rows::{Steps, places, put_row, put_rows};
 use crate::states::add_states;
 use cd_matching::kernel::KernelNode;
 use cd_matching::pattern::RegPat;
+use cd_moves::first_moves::first_moves;
+use cd_moves::moves::{Move, Moves};
 use cd_syntax::name::Name;
 use std::alloc::{AllocError, Global};
 

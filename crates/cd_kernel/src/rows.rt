@@ -12,9 +12,9 @@ ghost use Rattle.cd_moves.specs.Inner.PlainMoves.{plain_move, plain_moves};
 ghost use Rattle.cd_moves.specs.Inner.Rows.{plain_row, plain_rows};
 
 use crate::chain::put;
-use cd_moves::moves::{Move, Moves};
 use cd_graph::built_in::{ANY, EMPTY, NIL};
 use cd_matching::kernel::KernelNode;
+use cd_moves::moves::{Move, Moves};
 use cd_sets::node_id::NodeId;
 use cd_syntax::constant::Constant;
 use std::alloc::{AllocError, Global};

@@ -7,9 +7,9 @@ ghost use Rattle.cd_moves.specs.Inner.Rows.{plain_rows, plain_row, followed, tur
 ghost use Rattle.cd_moves.specs.Inner.Rows.{first_moves_row, rows_back, rows_back_in_turn};
 ghost use Rattle.cd_moves.specs.Inner.Rows.{rows_back_of_one};
 
+use cd_matching::pattern::RegPat;
 use cd_moves::first_moves::{first_moves, followed, items_in, items_in_all, turns};
 use cd_moves::moves::Moves;
-use cd_matching::pattern::RegPat;
 use cd_syntax::type_tree::Post;
 use std::alloc::{AllocError, Global};
 

@@ -2,8 +2,8 @@
 use Rattle.std.proofs.Common.{◌≡◌, List, [], ◌++◌, sym, subst, append-nil}
 use Rattle.cd_model.specs.Thing.{Thing}
 use Rattle.cd_model.specs.Formula.{Graph, IsGraph}
-use Rattle.cd_members.specs.Facts.{Fact, AreRight}
-use Rattle.cd_members.proofs.FactsKept.{right_in_more}
+use Rattle.cd_facts.specs.Facts.{Fact, AreRight}
+use Rattle.cd_facts.proofs.FactsKept.{right_in_more}
 
 -- the table has the same elements, and more after them
 abbrev pub Grown : (old new : List Thing) → Type 0

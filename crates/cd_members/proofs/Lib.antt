@@ -12,10 +12,3 @@ mod RecordsForRows
 mod RecordAttempts
 mod Growing
 pub mod HeldIsLeft
-pub mod FindingIsRight
-pub mod UnknownParts
-mod LabelsOfRecords
-mod RisingLabels
-mod FieldsInTurn
-pub mod FactsKept
-mod Waiting

@@ -3,6 +3,3 @@ pub mod Basic
 pub mod Ready
 pub mod Holding
 pub mod RecordFields
-pub mod Known
-pub mod Rising
-pub mod Finding

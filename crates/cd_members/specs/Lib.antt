@@ -1,4 +1,3 @@
 pub mod Attempts
 pub mod Held
-pub mod Facts
 pub mod Inner

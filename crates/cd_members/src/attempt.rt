@@ -8,16 +8,16 @@ ghost use Rattle.cd_rules.specs.InWay.{AreInWay};
 ghost use Rattle.cd_rules.specs.Tasks.{IsTaskOfNodes, questions_of};
 ghost use Rattle.cd_elements.specs.Elements.{table};
 ghost use Rattle.cd_elements.specs.Table.{Names, element_at};
-ghost use Rattle.cd_members.specs.Facts.{AreRight};
+ghost use Rattle.cd_facts.specs.Facts.{AreRight};
 ghost use Rattle.cd_tasks.specs.PlainTask.{plain_task};
 ghost use Rattle.cd_members.specs.Attempts.{IsAttempt};
 
-use crate::Facts;
 use crate::arrow::attempt_arrow;
 use crate::pair::attempt_pair;
 use crate::record::attempt_record;
 use crate::xml::attempt_xml;
 use cd_elements::{ElementId, Elements};
+use cd_facts::Facts;
 use cd_graph::Graph;
 use cd_tasks::Task;
 use std::alloc::{AllocError, Global};

@@ -1,4 +1,4 @@
-//! All members that hold what elements make.
+//! The first of the members that hold what elements make.
 ghost use Rattle.std.specs.Prelude.{◌≡◌, ◌≤◌, length, map, IfOk, OnOk};
 ghost use Rattle.cd_graph.specs.Nodes.{nodes};
 ghost use Rattle.cd_model.specs.AllOf.{AllOf};
@@ -7,15 +7,15 @@ ghost use Rattle.cd_rules.specs.InWay.{AreInWay};
 ghost use Rattle.cd_rules.specs.Tasks.{IsTaskOfNodes, questions_of};
 ghost use Rattle.cd_elements.specs.Elements.{table};
 ghost use Rattle.cd_elements.specs.Table.{Names, element_at};
-ghost use Rattle.cd_members.specs.Facts.{AreRight};
+ghost use Rattle.cd_facts.specs.Facts.{AreRight};
 ghost use Rattle.cd_members.specs.Held.{IsHeldAt};
 ghost use Rattle.cd_members.specs.Inner.Holding.{AddsPlace};
 ghost use Rattle.cd_tasks.specs.PlainTask.{plain_task};
 
-use crate::Facts;
 use crate::pair::places_of_pair;
 use crate::xml::places_of_xml;
 use cd_elements::{ElementId, Elements};
+use cd_facts::Facts;
 use cd_graph::Graph;
 use cd_tasks::Task;
 use std::alloc::AllocError;

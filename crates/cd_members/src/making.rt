@@ -4,7 +4,7 @@ ghost use Rattle.cd_graph.specs.Nodes.{nodes};
 ghost use Rattle.cd_model.specs.Thing.{Thing, IsElement};
 ghost use Rattle.cd_elements.specs.Elements.{table};
 ghost use Rattle.cd_elements.specs.Table.{Names, IsShape, element_at, element_by};
-ghost use Rattle.cd_members.specs.Facts.{Fact, AreRight};
+ghost use Rattle.cd_facts.specs.Facts.{Fact, AreRight};
 
 use cd_elements::{ElementId, Elements, Shape};
 use cd_graph::Graph;

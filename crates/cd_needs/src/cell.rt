@@ -85,7 +85,7 @@ fn none_optional(reasons: &[Chosen<'_>], label: &Name) -> bool
 
 /// Whether nothing may stand at a label in the records of the wanted types that are outside the
 /// refused ones for these reasons.
-pub fn may_be_absent(wanted: &[&Fields], reasons: &[Chosen<'_>], label: &Name) -> bool
+pub(crate) fn may_be_absent(wanted: &[&Fields], reasons: &[Chosen<'_>], label: &Name) -> bool
     ensures { let cell = cell_at (record_types wanted.now) (plain_reasons reasons.now) label.now in
         result ≡ cell.absent }
 {
@@ -93,7 +93,7 @@ pub fn may_be_absent(wanted: &[&Fields], reasons: &[Chosen<'_>], label: &Name) -
 }
 
 /// What a value at a label is in, in these records.
-pub fn value_at(
+pub(crate) fn value_at(
     alloc: Global,
     wanted: &[&Fields],
     reasons: &[Chosen<'_>],
@@ -108,7 +108,7 @@ pub fn value_at(
 }
 
 /// What may stand at a label in these records.
-pub fn cell_at(
+pub(crate) fn cell_at(
     alloc: Global,
     wanted: &[&Fields],
     reasons: &[Chosen<'_>],

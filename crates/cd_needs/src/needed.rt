@@ -17,7 +17,7 @@ use cd_syntax::name::Name;
 use std::alloc::{AllocError, Global};
 
 /// The nodes of the types for labels that they do not name.
-pub fn rests(alloc: Global, types: &[&Fields]) -> Result<Vec<NodeId>, AllocError>
+pub(crate) fn rests(alloc: Global, types: &[&Fields]) -> Result<Vec<NodeId>, AllocError>
     ensures { IfOk result (λ nodes.
         nodes.items ≡ map (λ type. type.rest) (record_types types.now)) }
 {
@@ -30,7 +30,7 @@ pub fn rests(alloc: Global, types: &[&Fields]) -> Result<Vec<NodeId>, AllocError
 
 /// Adds what some value is in, at labels that no type names, for each type with such a label as its
 /// reason.
-pub fn add_elsewhere(
+pub(crate) fn add_elsewhere(
     alloc: Global,
     rests: &[NodeId],
     reasons: &[Chosen<'_>],

@@ -9,12 +9,12 @@ ghost use Rattle.cd_tasks.specs.PlainTask.{plain_task};
 use crate::task::{ArrowTask, PairTask, RecordTask, Task, XmlTask};
 use cd_graph::built_in::{ATOM, RECORD};
 use cd_needs::needed_questions;
+use cd_needs::record_rows::row;
+use cd_needs::row::Row;
 use cd_parts::parts::{
     arrow_questions, question_of_attributes, question_of_contents, question_of_firsts,
     question_of_seconds, question_of_tags,
 };
-use cd_needs::record_rows::row;
-use cd_needs::row::Row;
 use cd_sets::question::Question;
 use std::alloc::{AllocError, Global};
 

@@ -7,8 +7,8 @@ ghost use Rattle.cd_tasks.specs.Assignments.{given as given_by, given_in_three a
 ghost use Rattle.cd_tasks.specs.Assignments.{members_of, way_of as way_by, way_outside};
 
 use crate::given::{given, given_in_three};
-use cd_parts::parts::{arrow_questions, pair_questions, xml_questions};
 use cd_normal::clause::Clause;
+use cd_parts::parts::{arrow_questions, pair_questions, xml_questions};
 use cd_sets::node_id::NodeId;
 use cd_sets::question::Question;
 use std::alloc::{AllocError, Global};

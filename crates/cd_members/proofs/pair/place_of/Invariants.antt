@@ -3,7 +3,7 @@ use Rattle.cd_graph.specs.Nodes.{nodes}
 use Rattle.cd_model.specs.AllOf.{AllOf}
 use Rattle.cd_elements.specs.Elements.{table}
 use Rattle.cd_elements.specs.Table.{element_at}
-use Rattle.cd_members.specs.Facts.{AreRight}
+use Rattle.cd_facts.specs.Facts.{AreRight}
 use Rattle.cd_members.specs.Held.{pair_in}
 use Rattle.cd_members.proofs.pair.place_of.Given as goal
 

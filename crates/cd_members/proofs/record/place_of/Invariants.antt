@@ -4,7 +4,7 @@ use Rattle.cd_model.specs.AllOf.{AllOf}
 use Rattle.cd_needs.specs.RecordType.{record_types}
 use Rattle.cd_elements.specs.Elements.{table}
 use Rattle.cd_elements.specs.Table.{element_at}
-use Rattle.cd_members.specs.Facts.{AreRight}
+use Rattle.cd_facts.specs.Facts.{AreRight}
 use Rattle.cd_members.specs.Held.{record_in}
 use Rattle.cd_members.proofs.record.place_of.Given as goal
 

@@ -1,5 +1,0 @@
-use Rattle.cd_members.proofs.FactsKept.{right_in_more}
-use Rattle.cd_members.proofs.laws.facts_stay_right.Goals as goal
-
-pub returns : goal.returns
-returns c = right_in_more
