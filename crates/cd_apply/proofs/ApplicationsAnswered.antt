@@ -15,9 +15,9 @@ use Rattle.cd_model.proofs.BuiltIns.{functions_are}
 use Rattle.cd_elements.specs.Table.{Names, element_at}
 use Rattle.cd_elements.specs.declared.shape.ElementId.{ElementId}
 use Rattle.cd_rules.specs.Needs.{question}
-use Rattle.cd_empty.specs.declared.verdict.Verdict.{Verdict}
-use Rattle.cd_empty.specs.declared.verdict.Verdict.TheVariants.{Inhabited}
-use Rattle.cd_empty.specs.Verdicts.{IsExact}
+use Rattle.cd_verdicts.specs.declared.verdict.Verdict.{Verdict}
+use Rattle.cd_verdicts.specs.declared.verdict.Verdict.TheVariants.{Inhabited}
+use Rattle.cd_verdicts.specs.Verdicts.{IsExact}
 use Rattle.cd_meaning.specs.Sets.{◌⊆◌, elements_of}
 use Rattle.cd_meaning.specs.Functions.{IsFunction}
 use Rattle.cd_apply.specs.declared.image.Image.{Image}

@@ -13,9 +13,10 @@ use crate::clauses::function_clauses;
 use crate::image::{Image, image_of};
 use crate::union::node_of;
 use cd_elements::ElementId;
-use cd_empty::{Verdict, World};
+use cd_empty::World;
 use cd_graph::built_in::ARROW;
 use cd_sets::node_id::NodeId;
+use cd_verdicts::Verdict;
 use std::alloc::{AllocError, Global};
 
 /// What functions give for arguments.

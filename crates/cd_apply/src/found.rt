@@ -6,10 +6,11 @@ ghost use Rattle.cd_empty.specs.Seen.{graph_of, table_of};
 ghost use Rattle.cd_apply.specs.Inner.Found.{IsFoundIn, SaysInside, SaysDisjoint};
 
 use cd_elements::ElementId;
-use cd_empty::{Verdict, World};
+use cd_empty::World;
 use cd_products::{within, without};
 use cd_sets::node_id::NodeId;
 use cd_sets::question::Question;
+use cd_verdicts::Verdict;
 use std::alloc::AllocError;
 
 /// An element of a question, if it has one.

@@ -10,9 +10,9 @@ use Rattle.cd_model.specs.Interfaces.{Interfaces, value_in_node}
 use Rattle.cd_model.specs.Thing.{Thing, IsElement, IsValue}
 use Rattle.cd_rules.specs.Family.{AsksNodes}
 use Rattle.cd_rules.specs.Needs as needs
-use Rattle.cd_empty.specs.Verdicts.{IsExact}
-use Rattle.cd_empty.specs.declared.verdict.Verdict.{Verdict}
-use Rattle.cd_empty.specs.declared.verdict.Verdict.TheVariants.{Empty}
+use Rattle.cd_verdicts.specs.Verdicts.{IsExact}
+use Rattle.cd_verdicts.specs.declared.verdict.Verdict.{Verdict}
+use Rattle.cd_verdicts.specs.declared.verdict.Verdict.TheVariants.{Empty}
 use Rattle.cd_products.specs.Products.{AreInterfacesOf}
 use Rattle.cd_products.specs.QuestionBoxes.{AreDecided, within_node, without_node}
 use Rattle.cd_products.proofs.Decided.{elements_decided}

@@ -14,9 +14,9 @@ use Rattle.cd_matching.specs.PlainKernel.{plain_node, plain_nodes}
 use Rattle.cd_matching.specs.declared.kernel.KernelNode.{KernelNode as CodeNode}
 use Rattle.cd_elements.specs.Table.{element_at}
 use Rattle.cd_elements.specs.declared.shape.ElementId.{ElementId}
-use Rattle.cd_empty.specs.Verdicts.{IsExact}
-use Rattle.cd_empty.specs.declared.verdict.Verdict.{Verdict}
-use Rattle.cd_empty.specs.declared.verdict.Verdict.TheVariants.{Empty, Inhabited}
+use Rattle.cd_verdicts.specs.Verdicts.{IsExact}
+use Rattle.cd_verdicts.specs.declared.verdict.Verdict.{Verdict}
+use Rattle.cd_verdicts.specs.declared.verdict.Verdict.TheVariants.{Empty, Inhabited}
 use Rattle.cd_filter.specs.Accepting.{place_of}
 use Rattle.cd_filter.specs.Capturing.{AreSteps}
 use Rattle.cd_filter.specs.Table.{Place, Step}

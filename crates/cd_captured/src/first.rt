@@ -15,11 +15,12 @@ ghost use Rattle.cd_captured.specs.Inner.PlainSteps.{all_steps};
 use crate::base::Base;
 use crate::lead::{Lead, lead_to_two};
 use crate::swapped::swapped;
-use cd_empty::{Verdict, World};
+use cd_empty::World;
 use cd_needs::asking::question;
 use cd_products::{within, without};
 use cd_sets::node_id::NodeId;
 use cd_sets::question::Question;
+use cd_verdicts::Verdict;
 use std::alloc::{AllocError, Global};
 
 // Nodes of the graph: the first holds what is in the two others.

@@ -17,7 +17,8 @@ use crate::numbering::number_all;
 use crate::place::Place;
 use crate::places::Places;
 use crate::step::Step;
-use cd_empty::{Verdict, World};
+use cd_empty::World;
+use cd_verdicts::Verdict;
 use std::alloc::AllocError;
 
 /// The steps of a place: those of its node, or none where nothing comes there. The places that they

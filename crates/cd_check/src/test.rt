@@ -18,7 +18,7 @@ use crate::base::Base;
 use crate::expr::check;
 use crate::fault::CheckError;
 use crate::needing::need_at;
-use cd_empty::{Verdict, World};
+use cd_empty::World;
 use cd_forms::union;
 use cd_graph::built_in::{BOOL, EMPTY};
 use cd_needs::asking::question;
@@ -26,6 +26,7 @@ use cd_program::expr::Expr;
 use cd_sets::node_id::NodeId;
 use cd_syntax::name::Name;
 use cd_typing::rule::Rule;
+use cd_verdicts::Verdict;
 use std::alloc::AllocError;
 
 /// The second expression where the first may be true, or the third where it may be false.

@@ -12,9 +12,9 @@ use Rattle.cd_model.proofs.Extending.{kept_formulas}
 use Rattle.cd_rules.specs.Needs.{question}
 use Rattle.cd_elements.specs.Table.{element_at}
 use Rattle.cd_elements.specs.declared.shape.ElementId.{ElementId}
-use Rattle.cd_empty.specs.Verdicts.{IsExact}
-use Rattle.cd_empty.specs.declared.verdict.Verdict.{Verdict}
-use Rattle.cd_empty.specs.declared.verdict.Verdict.TheVariants.{Inhabited}
+use Rattle.cd_verdicts.specs.Verdicts.{IsExact}
+use Rattle.cd_verdicts.specs.declared.verdict.Verdict.{Verdict}
+use Rattle.cd_verdicts.specs.declared.verdict.Verdict.TheVariants.{Inhabited}
 use Rattle.cd_program.specs.Expr.{Signature}
 use Rattle.cd_asking.specs.Mappings.{Mappings}
 use Rattle.cd_closures.specs.Inner.Asked.{IsAsked, IsBelow, AllIn, Decides}

@@ -8,8 +8,9 @@ ghost use Rattle.cd_closures.specs.Inner.Entries.{HasNone, IsDecided, AreAdded};
 
 use crate::asked::Asked;
 use cd_asking::Maps;
-use cd_empty::{Verdict, World};
+use cd_empty::World;
 use cd_sets::node_id::NodeId;
+use cd_verdicts::Verdict;
 use std::alloc::AllocError;
 
 /// Adds an entry for each of some arrows that all elements of a node are in.

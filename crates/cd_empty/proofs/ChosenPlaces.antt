@@ -11,12 +11,12 @@ use Rattle.cd_members.specs.Held.{IsHeldAt}
 use Rattle.cd_rules.specs.Tasks.{Task}
 use Rattle.cd_rules.proofs.Among.{of_each}
 use Rattle.cd_empty.specs.declared.decider.Decider.{Decider}
-use Rattle.cd_empty.specs.declared.verdict.Verdict.{Verdict}
-use Rattle.cd_empty.specs.declared.verdict.Verdict.TheVariants.{Inhabited}
+use Rattle.cd_verdicts.specs.declared.verdict.Verdict.{Verdict}
+use Rattle.cd_verdicts.specs.declared.verdict.Verdict.TheVariants.{Inhabited}
 use Rattle.cd_empty.specs.Inner.Looking.{HaveElements}
 use Rattle.cd_empty.specs.Inner.Running.{KeepsKnown}
 use Rattle.cd_empty.specs.Kept.{kept, table}
-use Rattle.cd_empty.specs.Verdicts.{IsKept}
+use Rattle.cd_verdicts.specs.Verdicts.{IsKept}
 use Rattle.cd_empty.proofs.LongerTables.{element_longer}
 
 -- where what is kept is the same

@@ -10,12 +10,13 @@ use Rattle.cd_rules.specs.Machine.{IsWitness, NotIn}
 use Rattle.cd_rules.specs.Right.{Differ, IsRight, HasFirst}
 use Rattle.cd_rules.proofs.FramesKept.{closed_at_last}
 use Rattle.cd_empty.specs.declared.decider.Decider.{Decider}
-use Rattle.cd_empty.specs.declared.verdict.Verdict.{Verdict}
+use Rattle.cd_verdicts.specs.declared.verdict.Verdict.{Verdict}
 use Rattle.cd_empty.specs.Inner.PlainFrame.{settled, state_of}
-use Rattle.cd_empty.specs.Kept.{IsSound, IsNamed, table, kept, witnesses_in}
-use Rattle.cd_empty.specs.Verdicts.{family, without_elements}
-use Rattle.cd_empty.proofs.SettledLists.{asked_settled, family_settled, witnesses_settled, each_settled, each_verdict, witness_is_asked, can_be_settled}
-use Rattle.cd_empty.proofs.VerdictsFound.{asked}
+use Rattle.cd_empty.specs.Kept.{IsSound, IsNamed, table, kept}
+use Rattle.cd_verdicts.specs.Witnesses.{witnesses_in}
+use Rattle.cd_verdicts.specs.Verdicts.{family, without_elements}
+use Rattle.cd_verdicts.proofs.SettledLists.{asked_settled, family_settled, witnesses_settled, each_settled, each_verdict, witness_is_asked, can_be_settled}
+use Rattle.cd_verdicts.proofs.VerdictsFound.{asked}
 
 -- without verdicts and facts a decider is sound
 pub sound_at_first : (graph : Graph) (decider : Decider) → kept decider ≡ [] → decider.facts ≡ [] → IsSound graph decider

@@ -12,17 +12,18 @@ use Rattle.cd_facts.specs.Facts.{AreRight}
 use Rattle.cd_rules.specs.Machine.{IsWitness, NotIn}
 use Rattle.cd_rules.specs.Right.{Differ}
 use Rattle.cd_empty.specs.declared.decider.Decider.{Decider}
-use Rattle.cd_empty.specs.declared.verdict.Verdict.{Verdict}
-use Rattle.cd_empty.specs.declared.verdict.Verdict.TheVariants.{Inhabited}
+use Rattle.cd_verdicts.specs.declared.verdict.Verdict.{Verdict}
+use Rattle.cd_verdicts.specs.declared.verdict.Verdict.TheVariants.{Inhabited}
 use Rattle.cd_empty.specs.Inner.Running.{Keeps, KeepsKnown}
-use Rattle.cd_empty.specs.Kept.{IsSound, IsNamed, table, kept, witnesses, witnesses_in}
-use Rattle.cd_empty.specs.Verdicts.{family}
+use Rattle.cd_empty.specs.Kept.{IsSound, IsNamed, table, kept, witnesses}
+use Rattle.cd_verdicts.specs.Witnesses.{witnesses_in}
+use Rattle.cd_verdicts.specs.Verdicts.{family}
 use Rattle.cd_empty.proofs.Growing.{grows_not, grows_then}
 use Rattle.cd_empty.proofs.LongerTables.{witnesses_same}
-use Rattle.cd_empty.proofs.QuestionsDiffer.{differ_joined}
+use Rattle.cd_verdicts.proofs.QuestionsDiffer.{differ_joined}
 use Rattle.cd_empty.proofs.SoundDeciders.{sound_again, sound_with_more}
-use Rattle.cd_empty.proofs.VerdictsFound.{asked}
-use Rattle.cd_empty.proofs.WitnessesOfVerdicts.{one_witness_more, none_empty_more, one_asked_more}
+use Rattle.cd_verdicts.proofs.VerdictsFound.{asked}
+use Rattle.cd_verdicts.proofs.WitnessesOfVerdicts.{one_witness_more, none_empty_more, one_asked_more}
 
 module _ (before after : Decider) (question : Question) (id : ElementId) (same : table after ≡ table before)
     (more : kept after ≡ kept before ++ (question, Inhabited id) ∷ []) where

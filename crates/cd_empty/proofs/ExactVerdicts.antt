@@ -11,10 +11,11 @@ use Rattle.cd_rules.proofs.ClosedStays.{closed_stays}
 use Rattle.cd_rules.proofs.Subsumption.{subsumes_own}
 use Rattle.cd_rules.proofs.NoMember.{element_out, value_out}
 use Rattle.cd_empty.specs.declared.decider.Decider.{Decider}
-use Rattle.cd_empty.specs.declared.verdict.Verdict.{Verdict}
-use Rattle.cd_empty.specs.declared.verdict.Verdict.TheVariants.{Empty, Inhabited}
-use Rattle.cd_empty.specs.Kept.{IsSound, IsNamed, table, kept, witnesses_in}
-use Rattle.cd_empty.specs.Verdicts.{HasNoElement, HasNoValue, IsExact, IsKept, family}
+use Rattle.cd_verdicts.specs.declared.verdict.Verdict.{Verdict}
+use Rattle.cd_verdicts.specs.declared.verdict.Verdict.TheVariants.{Empty, Inhabited}
+use Rattle.cd_empty.specs.Kept.{IsSound, IsNamed, table, kept}
+use Rattle.cd_verdicts.specs.Witnesses.{witnesses_in}
+use Rattle.cd_verdicts.specs.Verdicts.{HasNoElement, HasNoValue, IsExact, IsKept, family}
 use Rattle.cd_empty.proofs.Growing.{grows_then}
 
 -- a fact of each question with a verdict is one of each without element

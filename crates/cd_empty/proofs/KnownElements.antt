@@ -11,11 +11,12 @@ use Rattle.cd_rules.specs.Machine.{IsWitness}
 use Rattle.cd_rules.specs.InWay.{AreInWay}
 use Rattle.cd_rules.proofs.Among.{of_each}
 use Rattle.cd_empty.specs.declared.decider.Decider.{Decider}
-use Rattle.cd_empty.specs.declared.verdict.Verdict.{Verdict}
-use Rattle.cd_empty.specs.declared.verdict.Verdict.TheVariants.{Empty, Inhabited}
+use Rattle.cd_verdicts.specs.declared.verdict.Verdict.{Verdict}
+use Rattle.cd_verdicts.specs.declared.verdict.Verdict.TheVariants.{Empty, Inhabited}
 use Rattle.cd_empty.specs.Inner.Looking.{HaveElements}
-use Rattle.cd_empty.specs.Kept.{IsSound, IsNamed, table, kept, witnesses_in}
-use Rattle.cd_empty.specs.Verdicts.{IsKept}
+use Rattle.cd_empty.specs.Kept.{IsSound, IsNamed, table, kept}
+use Rattle.cd_verdicts.specs.Witnesses.{witnesses_in}
+use Rattle.cd_verdicts.specs.Verdicts.{IsKept}
 
 -- the element of a verdict is in the question
 abbrev IsOfVerdict : Graph → List Thing → Question × Verdict → Type 0

@@ -1,9 +1,5 @@
-mod Numbering
 pub mod EachAt
 pub mod Growing
-pub mod VerdictsFound
-pub mod QuestionsDiffer
-pub mod SettledLists
 pub mod DecisionsEnd
 pub mod ExactVerdicts
 pub mod LongerGraphs
@@ -18,7 +14,6 @@ pub mod BranchesTried
 pub mod PairsAdded
 pub mod NeedsLookedAt
 pub mod FirstConjuncts
-pub mod WitnessesOfVerdicts
 pub mod ElementsKept
 pub mod RunningDeciders
 pub mod OpenedQuestions

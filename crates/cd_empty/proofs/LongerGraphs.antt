@@ -15,10 +15,11 @@ use Rattle.cd_rules.specs.Family.{AsksNodes}
 use Rattle.cd_rules.proofs.ClosedStays.{closed_stays}
 use Rattle.cd_model.proofs.Ones.{each_weaker, each_of_two}
 use Rattle.cd_empty.specs.declared.decider.Decider.{Decider}
-use Rattle.cd_empty.specs.declared.verdict.Verdict.{Verdict}
-use Rattle.cd_empty.specs.declared.verdict.Verdict.TheVariants.{Empty, Inhabited}
-use Rattle.cd_empty.specs.Kept.{IsSound, table, kept, witnesses_in}
-use Rattle.cd_empty.specs.Verdicts.{family}
+use Rattle.cd_verdicts.specs.declared.verdict.Verdict.{Verdict}
+use Rattle.cd_verdicts.specs.declared.verdict.Verdict.TheVariants.{Empty, Inhabited}
+use Rattle.cd_empty.specs.Kept.{IsSound, table, kept}
+use Rattle.cd_verdicts.specs.Witnesses.{witnesses_in}
+use Rattle.cd_verdicts.specs.Verdicts.{family}
 use Rattle.cd_empty.proofs.ExactVerdicts.{each_of_family}
 use Rattle.cd_empty.proofs.Growing.{Grows, grows_not}
 

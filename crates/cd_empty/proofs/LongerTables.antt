@@ -10,10 +10,11 @@ use Rattle.cd_elements.specs.declared.shape.ElementId.{ElementId}
 use Rattle.cd_elements.specs.Table.{Names, IsResult, element_at, result_at, pairs_of}
 use Rattle.cd_facts.specs.Facts.{Fact, IsRight, AreRight}
 use Rattle.cd_model.proofs.Ones.{each_weaker}
-use Rattle.cd_empty.specs.declared.verdict.Verdict.{Verdict}
-use Rattle.cd_empty.specs.declared.verdict.Verdict.TheVariants.{Empty, Inhabited}
+use Rattle.cd_verdicts.specs.declared.verdict.Verdict.{Verdict}
+use Rattle.cd_verdicts.specs.declared.verdict.Verdict.TheVariants.{Empty, Inhabited}
 use Rattle.cd_empty.specs.Inner.Fit.{IsPairNamed}
-use Rattle.cd_empty.specs.Kept.{IsNamed, witnesses_in}
+use Rattle.cd_empty.specs.Kept.{IsNamed}
+use Rattle.cd_verdicts.specs.Witnesses.{witnesses_in}
 
 module _ (table more : List Thing) where
   pub named_longer : (id : ElementId) → Names table id → Names (table ++ more) id

@@ -19,18 +19,18 @@ use Rattle.cd_rules.proofs.QuestionsOnce.{in_neither}
 use Rattle.cd_rules.proofs.RunsAreRight.{step_right, right_at_first}
 use Rattle.cd_empty.specs.declared.decider.Decider.{Decider}
 use Rattle.cd_empty.specs.declared.frame.Frame.{Frame}
-use Rattle.cd_empty.specs.declared.verdict.Verdict.TheVariants.{Inhabited}
+use Rattle.cd_verdicts.specs.declared.verdict.Verdict.TheVariants.{Inhabited}
 use Rattle.cd_empty.specs.Inner.Doing.{IsUnknown}
 use Rattle.cd_empty.specs.Inner.Fit.{IsFit}
 use Rattle.cd_empty.specs.Inner.PlainFrame.{plain_work, plain_frame, state_of, settled, known}
 use Rattle.cd_empty.specs.Inner.Running.{IsRunning, Keeps, KeepsKnown, IsStepped, RunsOn}
 use Rattle.cd_empty.specs.Kept.{IsSound, table, kept, witnesses}
-use Rattle.cd_empty.specs.Verdicts.{family}
+use Rattle.cd_verdicts.specs.Verdicts.{family}
 use Rattle.cd_empty.proofs.ElementsKept.{known_witnesses, witness_more}
-use Rattle.cd_empty.proofs.QuestionsDiffer.{differ_on_left, differ_apart}
+use Rattle.cd_verdicts.proofs.QuestionsDiffer.{differ_on_left, differ_apart}
 use Rattle.cd_empty.proofs.SoundDeciders.{same_known, fit_again}
-use Rattle.cd_empty.proofs.VerdictsFound.{asked}
-use Rattle.cd_empty.proofs.WitnessesOfVerdicts.{inhabited, not_empty, not_inhabited, not_asked, differ_by_verdicts}
+use Rattle.cd_verdicts.proofs.VerdictsFound.{asked}
+use Rattle.cd_verdicts.proofs.WitnessesOfVerdicts.{inhabited, not_empty, not_inhabited, not_asked, differ_by_verdicts}
 
 -- a step that adds no witness and no question leaves less to do
 pub less_by_work : (before after : State) → IsFurther before after → after.witnesses ≡ before.witnesses → after.list ≡ before.list

@@ -13,13 +13,14 @@ use Rattle.cd_rules.specs.Family.{AsksNodes, IsClosed}
 use Rattle.cd_tasks.specs.PlainTask.{plain_task}
 use Rattle.cd_empty.specs.declared.decider.Decider.{Decider}
 use Rattle.cd_empty.specs.declared.frame.Frame.{Frame}
-use Rattle.cd_empty.specs.declared.verdict.Verdict.{Verdict}
+use Rattle.cd_verdicts.specs.declared.verdict.Verdict.{Verdict}
 use Rattle.cd_empty.specs.Inner.Fit.{IsFit, IsFunctionSoFar}
 use Rattle.cd_empty.specs.Inner.PlainFrame.{plain_work, known}
 use Rattle.cd_empty.specs.Inner.Running.{KeepsKnown}
 use Rattle.cd_empty.specs.Inner.Working.{IsReady, AddsElements}
-use Rattle.cd_empty.specs.Kept.{IsSound, IsNamed, table, kept, witnesses_in}
-use Rattle.cd_empty.specs.Verdicts.{family}
+use Rattle.cd_empty.specs.Kept.{IsSound, IsNamed, table, kept}
+use Rattle.cd_verdicts.specs.Witnesses.{witnesses_in}
+use Rattle.cd_verdicts.specs.Verdicts.{family}
 use Rattle.cd_empty.proofs.LongerTables.{pairs_longer, pairs_same, verdicts_longer, witnesses_same, facts_longer}
 
 -- the parts of soundness, over what a decider keeps

@@ -11,18 +11,18 @@ use Rattle.cd_rules.proofs.WorkFalls.{step_further}
 use Rattle.cd_empty.specs.declared.decider.Decider.{Decider}
 use Rattle.cd_empty.specs.declared.doing.Doing.TheVariants as doing
 use Rattle.cd_empty.specs.declared.frame.Frame.{Frame}
-use Rattle.cd_empty.specs.declared.verdict.Verdict.TheVariants.{Inhabited}
+use Rattle.cd_verdicts.specs.declared.verdict.Verdict.TheVariants.{Inhabited}
 use Rattle.cd_empty.specs.declared.went.Went.{Went}
 use Rattle.cd_empty.specs.declared.went.Went.TheVariants.{Worked, Opened, Found, Done}
 use Rattle.cd_empty.specs.Inner.Doing.{IsDoing}
 use Rattle.cd_empty.specs.Inner.PlainFrame.{state_of, settled}
 use Rattle.cd_empty.specs.Inner.Running.{IsRunning, Keeps, KeepsKnown, HasGone, IsStepped, RunsOn, IsOpened}
 use Rattle.cd_empty.specs.Kept.{IsSound, table, kept, witnesses}
-use Rattle.cd_empty.specs.Verdicts.{family}
+use Rattle.cd_verdicts.specs.Verdicts.{family}
 use Rattle.cd_empty.proofs.ElementsKept.{sound_with_one, witness_more, keeps_with_one, keeps_then, keeps_known, known_witnesses}
 use Rattle.cd_empty.proofs.RunningDeciders.{less_by_work, fits_again, runs_on, last_asks, last_has_no_verdict}
 use Rattle.cd_empty.proofs.RunningDeciders.{stepped_by_work, stepped_by_end, same_with_frame, stepped_by_element}
-use Rattle.cd_empty.proofs.VerdictsFound.{asked}
+use Rattle.cd_verdicts.proofs.VerdictsFound.{asked}
 
 -- the last frame was worked at, and stands now as this one
 module _ (graph : Graph) (before now : Decider) (first last : Frame) (rest frames : List Frame) (begins : frames ≡ first ∷ rest)

@@ -10,9 +10,9 @@ use Rattle.cd_model.specs.Membership.{Answers, answers, value_answers, asked}
 use Rattle.cd_model.proofs.DecidedAtNodes.{in_or_outside}
 use Rattle.cd_rules.specs.Needs.{question}
 use Rattle.cd_rules.proofs.ValuesDecided as value
-use Rattle.cd_empty.specs.declared.verdict.Verdict.{Verdict}
-use Rattle.cd_empty.specs.declared.verdict.Verdict.TheVariants.{Empty}
-use Rattle.cd_empty.specs.Verdicts.{HasNoElement, HasNoValue, AreWithin, IsExact}
+use Rattle.cd_verdicts.specs.declared.verdict.Verdict.{Verdict}
+use Rattle.cd_verdicts.specs.declared.verdict.Verdict.TheVariants.{Empty}
+use Rattle.cd_verdicts.specs.Verdicts.{HasNoElement, HasNoValue, AreWithin, IsExact}
 use Rattle.cd_empty.proofs.Growing.{grows_then}
 
 module _ (graph : Graph) (first second : NodeId) where

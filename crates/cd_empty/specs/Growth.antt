@@ -3,7 +3,7 @@ use Rattle.std.specs.Prelude.{◌≡◌, ◌++◌, List}
 use Rattle.cd_sets.specs.declared.question.Question.{Question}
 use Rattle.cd_model.specs.Thing.{Thing}
 use Rattle.cd_model.specs.Formula.{Graph}
-use Rattle.cd_empty.specs.declared.verdict.Verdict.{Verdict}
+use Rattle.cd_verdicts.specs.declared.verdict.Verdict.{Verdict}
 use Rattle.cd_empty.specs.Seen.{Seen, graph_of, table_of, kept}
 
 -- the graph, the elements and the verdicts of the old world each begin those of the new one

@@ -1,19 +1,20 @@
 -- What a decider keeps.
-use Rattle.std.specs.Prelude.{List, [], ◌∷◌, length, map}
+use Rattle.std.specs.Prelude.{List, length, map}
 use Rattle.cd_sets.specs.declared.question.Question.{Question}
 use Rattle.cd_model.specs.Thing.{Thing}
 use Rattle.cd_model.specs.AllOf.{AllOf}
 use Rattle.cd_model.specs.Formula.{Graph}
 use Rattle.cd_elements.specs.Elements as elements
-use Rattle.cd_elements.specs.Table.{Names, element_at}
+use Rattle.cd_elements.specs.Table.{Names}
 use Rattle.cd_facts.specs.Facts.{AreRight}
 use Rattle.cd_rules.specs.Machine.{Witness, IsWitness}
 use Rattle.cd_rules.specs.Right.{Differ}
 use Rattle.cd_rules.specs.Family.{AsksNodes, IsClosed}
 use Rattle.cd_empty.specs.declared.decider.Decider.{Decider}
-use Rattle.cd_empty.specs.declared.verdict.Verdict.{Verdict}
-use Rattle.cd_empty.specs.declared.verdict.Verdict.TheVariants.{Empty, Inhabited}
-use Rattle.cd_empty.specs.Verdicts.{family}
+use Rattle.cd_verdicts.specs.declared.verdict.Verdict.{Verdict}
+use Rattle.cd_verdicts.specs.declared.verdict.Verdict.TheVariants.{Empty, Inhabited}
+use Rattle.cd_verdicts.specs.Verdicts.{family}
+use Rattle.cd_verdicts.specs.Witnesses.{witnesses_in}
 
 -- its elements, and the questions that are settled, with their verdicts
 abbrev pub table : Decider → List Thing
@@ -21,13 +22,6 @@ table decider = elements.table decider.elements
 
 abbrev pub kept : Decider → List (Question × Verdict)
 kept decider = decider.verdicts
-
--- the questions that have elements, and these
-abbrev pub witnesses_in : (table : List Thing) → List (Question × Verdict) → List Witness
-witnesses_in table [] = []
-witnesses_in table ((question, Empty) ∷ kept) = witnesses_in table kept
-witnesses_in table ((question, Inhabited id) ∷ kept) =
-    (question, element_at table id) ∷ witnesses_in table kept
 
 abbrev pub witnesses : Decider → List Witness
 witnesses decider = witnesses_in (table decider) (kept decider)

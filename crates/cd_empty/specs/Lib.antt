@@ -1,4 +1,3 @@
-pub mod Verdicts
 pub mod Kept
 pub mod Seen
 pub mod Growth

@@ -11,8 +11,8 @@ use Rattle.cd_graph.specs.Nodes.{nodes}
 use Rattle.cd_elements.specs.contracts.elements.Elements as elements
 use Rattle.cd_elements.specs.declared.elements.Elements.{Elements}
 use Rattle.cd_elements.specs.Elements.{table}
-use Rattle.cd_empty.specs.contracts.verdict.Verdict as verdict
-use Rattle.cd_empty.specs.declared.verdict.Verdict.{Verdict}
+use Rattle.cd_verdicts.specs.contracts.verdict.Verdict as verdict
+use Rattle.cd_verdicts.specs.declared.verdict.Verdict.{Verdict}
 
 -- a graph, a table of elements, and the questions that are settled, with their verdicts
 pub record Seen : Type 0 where

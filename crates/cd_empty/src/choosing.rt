@@ -11,13 +11,13 @@ ghost use Rattle.cd_empty.specs.Inner.Running.{KeepsKnown};
 ghost use Rattle.cd_empty.specs.Kept.{IsSound, table};
 
 use crate::decider::Decider;
-use crate::look::Look;
 use cd_elements::ElementId;
 use cd_graph::Graph;
 use cd_members::held_places;
 use cd_sets::node_id::NodeId;
 use cd_sets::question::Question;
 use cd_tasks::Task;
+use cd_verdicts::look::Look;
 use std::alloc::AllocError;
 
 impl Decider {

@@ -5,13 +5,13 @@ ghost use Rattle.cd_model.specs.Formula.{Graph as PlainGraph};
 ghost use Rattle.cd_graph.specs.Nodes.{nodes};
 ghost use Rattle.cd_rules.specs.Family.{AsksNodes};
 
-use crate::asked::Asked;
-use crate::verdict::Verdict;
-use crate::verdicts::Verdicts;
 use cd_elements::Elements;
 use cd_facts::Facts;
 use cd_graph::Graph;
 use cd_sets::question::Question;
+use cd_verdicts::Verdict;
+use cd_verdicts::asked::Asked;
+use cd_verdicts::verdicts::Verdicts;
 use std::alloc::{AllocError, Global};
 
 /// A table of elements, what is known of them, and verdicts on questions. While it decides, a list
@@ -25,9 +25,9 @@ pub(crate) struct Decider {
 }
 
 impl Decider {
-    ghost use Rattle.cd_empty.specs.declared.verdict.Verdict.{Verdict as AVerdict};
+    ghost use Rattle.cd_verdicts.specs.declared.verdict.Verdict.{Verdict as AVerdict};
     ghost use Rattle.cd_empty.specs.Kept.{IsSound, kept, table};
-    ghost use Rattle.cd_empty.specs.Verdicts.{IsKept};
+    ghost use Rattle.cd_verdicts.specs.Verdicts.{IsKept};
 
     /// No elements and no verdicts.
     pub(crate) fn new(alloc: Global) -> Decider

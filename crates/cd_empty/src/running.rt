@@ -25,7 +25,7 @@ use cd_sets::question::Question;
 use std::alloc::AllocError;
 
 impl Decider {
-    ghost use Rattle.cd_empty.specs.declared.verdict.Verdict.TheVariants.{Inhabited};
+    ghost use Rattle.cd_verdicts.specs.declared.verdict.Verdict.TheVariants.{Inhabited};
 
     /// Assumes that a question has no element, and works at it, and at each other one that it leads
     /// to, until nothing is left to do.

@@ -23,7 +23,7 @@ ghost use Rattle.cd_empty.specs.Kept.{IsSound, table};
 use crate::decider::Decider;
 use crate::doing::Doing;
 use crate::frame::Frame;
-use crate::look::Parts;
+use crate::parts::Parts;
 use cd_elements::{ElementId, Pairs, Shape};
 use cd_graph::Graph;
 use cd_members::{Attempt, attempt_task};
@@ -119,8 +119,8 @@ impl Decider {
         }
     }
 
-    // An attempt at a branch, with elements of its questions. Of several members that hold what is
-    // made one is given of which the fewest sides are open.
+    // An attempt at a branch, with elements of its questions. Where what is made is held, `choose`
+    // says by which member: any that holds it is right, and which it is decides how soon all ends.
     fn attempt(
         &mut self,
         graph: &Graph,

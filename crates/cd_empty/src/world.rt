@@ -1,10 +1,10 @@
 use crate::decider::Decider;
-use crate::verdict::Verdict;
 use cd_elements::Elements;
 use cd_graph::{Formulas, Graph};
 use cd_needs::asking::question;
 use cd_sets::node_id::NodeId;
 use cd_sets::question::Question;
+use cd_verdicts::Verdict;
 use std::alloc::{AllocError, Global};
 use std::marker::Model;
 
@@ -49,9 +49,9 @@ impl World {
     ghost use Rattle.cd_graph.specs.PlainFormula.{plain_list};
     ghost use Rattle.cd_rules.specs.Family.{AsksNodes, IsClosed};
     ghost use Rattle.cd_rules.specs.Needs.{question};
-    ghost use Rattle.cd_empty.specs.declared.verdict.Verdict.{Verdict as AVerdict};
-    ghost use Rattle.cd_empty.specs.declared.verdict.Verdict.TheVariants.{Empty};
-    ghost use Rattle.cd_empty.specs.Verdicts.{IsExact, IsKept, AreWithin, family};
+    ghost use Rattle.cd_verdicts.specs.declared.verdict.Verdict.{Verdict as AVerdict};
+    ghost use Rattle.cd_verdicts.specs.declared.verdict.Verdict.TheVariants.{Empty};
+    ghost use Rattle.cd_verdicts.specs.Verdicts.{IsExact, IsKept, AreWithin, family};
     ghost use Rattle.cd_empty.specs.Seen.{graph_of, table_of, kept};
     ghost use Rattle.cd_empty.specs.Growth.{Grows};
 

@@ -8,8 +8,8 @@ use Rattle.cd_model.proofs.ApartAtNodes.{nodes_keep}
 use Rattle.cd_rules.specs.Needs.{question}
 use Rattle.cd_elements.specs.Table.{element_at}
 use Rattle.cd_elements.specs.declared.shape.ElementId.{ElementId}
-use Rattle.cd_empty.specs.Verdicts.{IsExact}
-use Rattle.cd_empty.specs.declared.verdict.Verdict.TheVariants.{Inhabited}
+use Rattle.cd_verdicts.specs.Verdicts.{IsExact}
+use Rattle.cd_verdicts.specs.declared.verdict.Verdict.TheVariants.{Inhabited}
 use Rattle.cd_meaning.specs.Sets.{elements_of}
 use Rattle.cd_operators.specs.Misfits.{Misses}
 

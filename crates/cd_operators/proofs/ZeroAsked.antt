@@ -11,8 +11,8 @@ use Rattle.cd_rules.proofs.Answered.{each_of_asked}
 use Rattle.cd_rules.proofs.Asking.{each_of_set, asked_of_each}
 use Rattle.cd_elements.specs.Table.{element_at}
 use Rattle.cd_elements.specs.declared.shape.ElementId.{ElementId}
-use Rattle.cd_empty.specs.Verdicts.{HasNoElement, IsExact}
-use Rattle.cd_empty.specs.declared.verdict.Verdict.TheVariants.{Inhabited}
+use Rattle.cd_verdicts.specs.Verdicts.{HasNoElement, IsExact}
+use Rattle.cd_verdicts.specs.declared.verdict.Verdict.TheVariants.{Inhabited}
 use Rattle.cd_meaning.specs.Sets.{elements_of}
 use Rattle.cd_operators.specs.declared.tools.Tools.{Tools}
 use Rattle.cd_operators.specs.Misfits.{Misses}

@@ -8,9 +8,10 @@ ghost use Rattle.cd_operators.specs.Misfits.{Misses, IsMisfitOf, IsMisfitOfBoth}
 
 use crate::misfit::{Misfit, Side, Stop};
 use cd_elements::ElementId;
-use cd_empty::{Verdict, World};
+use cd_empty::World;
 use cd_sets::node_id::NodeId;
 use cd_typing::rule::Rule;
+use cd_verdicts::Verdict;
 use std::alloc::AllocError;
 
 /// An element of a node that is not in another one, if there is one. The graph stays.

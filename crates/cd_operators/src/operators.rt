@@ -7,7 +7,7 @@ ghost use Rattle.cd_typing.specs.Typ.{BuiltIn};
 ghost use Rattle.cd_rules.specs.Needs.{question};
 ghost use Rattle.cd_empty.specs.Growth.{Grows};
 ghost use Rattle.cd_empty.specs.Seen.{graph_of, table_of};
-ghost use Rattle.cd_empty.specs.Verdicts.{IsExact};
+ghost use Rattle.cd_verdicts.specs.Verdicts.{IsExact};
 ghost use Rattle.cd_operators.specs.Misfits.{IsMisfit, IsMisfitOfBoth, AreRecords};
 ghost use Rattle.cd_operators.specs.ResultTypes.{IsLeastResult};
 ghost use Rattle.cd_operators.specs.Tools.{AreTools};
@@ -17,7 +17,7 @@ use crate::need::{need_both, outside};
 use crate::operation::Operation;
 use crate::results::results;
 use crate::tools::Tools;
-use cd_empty::{Verdict, World};
+use cd_empty::World;
 use cd_graph::built_in::{BOOL, DATA, INT, RECORD};
 use cd_needs::asking::question;
 use cd_program::operator::Op;
@@ -25,6 +25,7 @@ use cd_records::merged;
 use cd_sequences::joined;
 use cd_sets::node_id::NodeId;
 use cd_typing::rule::Rule;
+use cd_verdicts::Verdict;
 use std::alloc::{AllocError, Global};
 
 /// A node of what an operator gives for operands of these types. Of `&&` and `||` this is what they

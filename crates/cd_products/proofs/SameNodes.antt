@@ -7,7 +7,7 @@ use Rattle.cd_model.specs.Interfaces.{Interfaces, value_in_node}
 use Rattle.cd_model.specs.Membership.{answers}
 use Rattle.cd_model.specs.Thing.{Thing, IsElement, IsValue}
 use Rattle.cd_rules.specs.Needs.{question}
-use Rattle.cd_empty.specs.Verdicts.{HasNoElement, HasNoValue}
+use Rattle.cd_verdicts.specs.Verdicts.{HasNoElement, HasNoValue}
 use Rattle.cd_products.specs.Products.{AreInterfacesOf}
 use Rattle.cd_products.proofs.Decided.{elements_decided}
 use Rattle.cd_products.proofs.MadeProducts.{values_decided}

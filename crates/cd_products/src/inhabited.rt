@@ -7,8 +7,9 @@ ghost use Rattle.cd_empty.specs.Seen.{graph_of};
 ghost use Rattle.cd_products.specs.Inner.After.{IsAfter};
 ghost use Rattle.cd_products.specs.Inner.Tests.{IsTest, IsTested, AreOfGraph, keep_boxes};
 
-use cd_empty::{Verdict, World};
+use cd_empty::World;
 use cd_sets::question::{Question, Questions};
+use cd_verdicts::Verdict;
 use std::alloc::AllocError;
 
 /// Adds the boxes each of whose questions has an element.

@@ -5,11 +5,12 @@ ghost use Rattle.cd_model.specs.AllOf.{AllOf};
 ghost use Rattle.cd_rules.specs.Needs.{question};
 ghost use Rattle.cd_empty.specs.Growth.{Grows};
 ghost use Rattle.cd_empty.specs.Seen.{graph_of};
-ghost use Rattle.cd_empty.specs.Verdicts.{HasNoElement, HasNoValue};
+ghost use Rattle.cd_verdicts.specs.Verdicts.{HasNoElement, HasNoValue};
 ghost use Rattle.cd_products.specs.Keeping.{HoldSame};
 
-use cd_empty::{Verdict, World};
+use cd_empty::World;
 use cd_sets::node_id::NodeId;
+use cd_verdicts::Verdict;
 
 /// The first of some nodes that holds what a node holds, or the node itself where none of them is
 /// found to do so. Where memory runs out while a node is looked at, it is passed over.

@@ -13,9 +13,10 @@ ghost use Rattle.cd_records.specs.Inner.Plain.{plain_choice, plain_questions};
 use crate::both::both;
 use crate::choice::Choice;
 use crate::questions::distinct;
-use cd_empty::{Verdict, World};
+use cd_empty::World;
 use cd_needs::row::Row;
 use cd_sets::question::Question;
+use cd_verdicts::Verdict;
 use std::alloc::{AllocError, Global};
 
 /// The choices of what stands at a label of no cell.

@@ -13,10 +13,11 @@ ghost use Rattle.cd_rows.specs.RecordRows.{RowAsksNodes};
 ghost use Rattle.cd_rows.specs.Inner.Refining.{keep as keep_rows, needed};
 
 use crate::copied::copy_of;
-use cd_empty::{Verdict, World};
+use cd_empty::World;
 use cd_needs::row::{FieldCell, Row};
 use cd_sets::question::Question;
 use cd_syntax::name::Name;
+use cd_verdicts::Verdict;
 use std::alloc::AllocError;
 
 /// Adds the rows that have a record.

@@ -14,7 +14,7 @@ use Rattle.cd_model.proofs.BuiltIns.{nils_are, nothing_is_empty}
 use Rattle.cd_matching.specs.Sequences.{nil}
 use Rattle.cd_matching.proofs.NilIsElement.{nil_is_element}
 use Rattle.cd_rules.specs.Family.{AsksNodes}
-use Rattle.cd_empty.specs.Verdicts.{HasNoElement}
+use Rattle.cd_verdicts.specs.Verdicts.{HasNoElement}
 use Rattle.cd_products.specs.QuestionBoxes.{within_node}
 use Rattle.cd_products.proofs.OneMore.{each_with, each_without}
 use Rattle.cd_sequences.specs.Inner.Asking.{HasNil}

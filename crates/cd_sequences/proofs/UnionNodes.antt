@@ -16,7 +16,7 @@ use Rattle.cd_model.proofs.Extending.{kept_formulas}
 use Rattle.cd_rules.specs.Family.{AsksNodes}
 use Rattle.cd_model.proofs.Ones.{one_leads}
 use Rattle.cd_model.proofs.FormulasAmongMore.{formula_among_more, are_formulas}
-use Rattle.cd_empty.specs.Verdicts.{HasNoElement}
+use Rattle.cd_verdicts.specs.Verdicts.{HasNoElement}
 use Rattle.cd_products.specs.QuestionBoxes.{without_node}
 use Rattle.cd_products.proofs.Decided.{elements_decided}
 use Rattle.cd_products.proofs.OneMore.{each_with}

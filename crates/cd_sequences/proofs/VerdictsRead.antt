@@ -5,9 +5,9 @@ use Rattle.cd_model.specs.Formula.{Graph, in_node, asked}
 use Rattle.cd_model.specs.Thing.{Thing, IsElement}
 use Rattle.cd_elements.specs.Table.{element_at}
 use Rattle.cd_elements.specs.declared.shape.ElementId.{ElementId}
-use Rattle.cd_empty.specs.Verdicts.{HasNoElement, IsExact}
-use Rattle.cd_empty.specs.declared.verdict.Verdict.{Verdict}
-use Rattle.cd_empty.specs.declared.verdict.Verdict.TheVariants.{Empty, Inhabited}
+use Rattle.cd_verdicts.specs.Verdicts.{HasNoElement, IsExact}
+use Rattle.cd_verdicts.specs.declared.verdict.Verdict.{Verdict}
+use Rattle.cd_verdicts.specs.declared.verdict.Verdict.TheVariants.{Empty, Inhabited}
 
 module _ (graph : Graph) (table : List Thing) (question : Question) (verdict : Verdict)
     (exact : IsExact graph table question verdict) where

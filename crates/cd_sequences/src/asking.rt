@@ -5,12 +5,13 @@ ghost use Rattle.cd_empty.specs.Growth.{Grows};
 ghost use Rattle.cd_empty.specs.Seen.{graph_of};
 ghost use Rattle.cd_sequences.specs.Inner.Asking.{asking, HasNil};
 
-use cd_empty::{Verdict, World};
+use cd_empty::World;
 use cd_graph::built_in::NIL;
 use cd_products::within;
 use cd_sets::id_set::IdSet;
 use cd_sets::node_id::NodeId;
 use cd_sets::question::Question;
+use cd_verdicts::Verdict;
 use std::alloc::{AllocError, Global};
 
 /// What is in a node.

@@ -9,10 +9,11 @@ ghost use Rattle.cd_sequences.specs.Inner.Joins.{IsJoin, IsAnswer};
 
 use crate::explore::explore;
 use crate::state_formulas::state_formulas;
-use cd_empty::{Verdict, World};
+use cd_empty::World;
 use cd_graph::Formulas;
 use cd_graph::built_in::{EMPTY, NIL};
 use cd_sets::node_id::NodeId;
+use cd_verdicts::Verdict;
 use std::alloc::{AllocError, Global};
 
 /// A node that holds exactly the sequences of the first node, each followed by an element of the

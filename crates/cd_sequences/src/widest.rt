@@ -10,11 +10,12 @@ ghost use Rattle.cd_sequences.specs.Inner.Numbered.{IsAmong};
 ghost use Rattle.cd_sequences.specs.Inner.Unions.{IsUnion, IsWithinNode};
 
 use crate::asking::alone;
-use cd_empty::{Verdict, World};
+use cd_empty::World;
 use cd_graph::built_in::EMPTY;
 use cd_products::without;
 use cd_sets::node_id::NodeId;
 use cd_sets::question::Question;
+use cd_verdicts::Verdict;
 use std::alloc::AllocError;
 
 /// The empty node where there are no questions, or a node that one of them asks for alone and that

@@ -8,7 +8,7 @@ use Rattle.cd_model.specs.Formula.{Formula, Graph, formula_at}
 use Rattle.cd_model.specs.Membership.{answers, holds, reader}
 use Rattle.cd_model.specs.Thing as thing
 use Rattle.cd_model.specs.Thing.{Thing, IsElement}
-use Rattle.cd_empty.specs.Verdicts.{HasNoElement}
+use Rattle.cd_verdicts.specs.Verdicts.{HasNoElement}
 use Rattle.cd_products.proofs.OneMore.{each_without}
 use Rattle.cd_rules.specs.Needs.{question}
 use Rattle.cd_sites.specs.Inner.Tags.{HasTags}

@@ -13,7 +13,7 @@ use Rattle.cd_rules.specs.Needs.{question}
 use Rattle.cd_rules.proofs.Asking.{asked_of_each}
 use Rattle.cd_model.proofs.FormulasAmongMore.{each_among_more}
 use Rattle.cd_products.specs.Keeping.{IsFormulaOfQuestion}
-use Rattle.cd_empty.specs.Verdicts.{HasNoElement}
+use Rattle.cd_verdicts.specs.Verdicts.{HasNoElement}
 use Rattle.cd_sites.specs.Inner.Differences.{IsRest}
 use Rattle.cd_sites.proofs.DifferencesMade.{both_asked}
 use Rattle.cd_sites.proofs.RightTests.{one_answer}

@@ -25,9 +25,9 @@ use Rattle.cd_rules.proofs.Asking.{asked_of_each}
 use Rattle.cd_meaning.specs.Sets.{elements_of}
 use Rattle.cd_elements.specs.Table.{element_at}
 use Rattle.cd_elements.specs.declared.shape.ElementId.{ElementId}
-use Rattle.cd_empty.specs.Verdicts.{HasNoElement, IsExact}
-use Rattle.cd_empty.specs.declared.verdict.Verdict.{Verdict}
-use Rattle.cd_empty.specs.declared.verdict.Verdict.TheVariants.{Empty, Inhabited}
+use Rattle.cd_verdicts.specs.Verdicts.{HasNoElement, IsExact}
+use Rattle.cd_verdicts.specs.declared.verdict.Verdict.{Verdict}
+use Rattle.cd_verdicts.specs.declared.verdict.Verdict.TheVariants.{Empty, Inhabited}
 use Rattle.cd_sites.specs.Sites.{IsSite}
 use Rattle.cd_sites.specs.TakenElements.{IsTakenFrom, TakesNone}
 use Rattle.cd_sites.specs.declared.site.Site.{Site}

@@ -12,9 +12,10 @@ ghost use Rattle.cd_sites.specs.TakenElements.{IsTakenFrom, TakesNone};
 
 use crate::site::Site;
 use cd_elements::ElementId;
-use cd_empty::{Verdict, World};
+use cd_empty::World;
 use cd_needs::asking::question;
 use cd_sets::node_id::NodeId;
+use cd_verdicts::Verdict;
 use std::alloc::AllocError;
 
 /// An element of what is in a node that the pattern of a site takes, if there is one. The graph

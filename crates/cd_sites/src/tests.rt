@@ -7,14 +7,15 @@ ghost use Rattle.cd_model.specs.Formula.{IsGraph, IsWithin, Atoms};
 ghost use Rattle.cd_rules.specs.Needs.{question};
 ghost use Rattle.cd_empty.specs.Growth.{Grows};
 ghost use Rattle.cd_empty.specs.Seen.{graph_of};
-ghost use Rattle.cd_empty.specs.Verdicts.{HasNoElement};
+ghost use Rattle.cd_verdicts.specs.Verdicts.{HasNoElement};
 ghost use Rattle.cd_sites.specs.Inner.Tags.{HasTags};
 
-use cd_empty::{Verdict, World};
+use cd_empty::World;
 use cd_graph::{Formula, Graph};
 use cd_needs::asking::question;
 use cd_sets::atom_set::AtomSet;
 use cd_sets::node_id::NodeId;
+use cd_verdicts::Verdict;
 use std::alloc::{AllocError, Global};
 
 /// Whether nothing is in both nodes.

@@ -4,9 +4,10 @@ ghost use Rattle.cd_empty.specs.Seen.{graph_of};
 ghost use Rattle.cd_replies.specs.Message.{reply_of};
 ghost use Rattle.cd_sub.specs.Inner.Comparing.{ComparesNodes};
 
-use cd_empty::{Verdict, World};
+use cd_empty::World;
 use cd_replies::message::{Message, no, yes};
 use cd_sets::node_id::NodeId;
+use cd_verdicts::Verdict;
 use std::alloc::{AllocError, Global};
 
 /// Whether what is in the first node is in the second.

@@ -8,8 +8,8 @@ use Rattle.cd_model.specs.Thing.{Thing, IsElement}
 use Rattle.cd_rules.specs.Needs.{question}
 use Rattle.cd_elements.specs.Table.{element_at}
 use Rattle.cd_elements.specs.declared.shape.ElementId.{ElementId}
-use Rattle.cd_empty.specs.Verdicts.{IsExact}
-use Rattle.cd_empty.specs.declared.verdict.Verdict.TheVariants.{Inhabited}
+use Rattle.cd_verdicts.specs.Verdicts.{IsExact}
+use Rattle.cd_verdicts.specs.declared.verdict.Verdict.TheVariants.{Inhabited}
 use Rattle.cd_work.specs.Queries.{Query, Answered, within, not_within}
 use Rattle.cd_work.specs.Inner.Asking.{query_type, AnswersQuery}
 use Rattle.cd_work.proofs.QueriesRead.{query_reads, wanted_reads}

@@ -12,12 +12,13 @@ ghost use Rattle.cd_work.specs.Queries.{Answered};
 ghost use Rattle.cd_work.specs.Inner.Asking.{query_type, AnswersQuery, Keeps};
 
 use crate::query::query;
-use cd_empty::{Verdict, World};
+use cd_empty::World;
 use cd_replies::naming::declare;
 use cd_resolve::error::NameError;
 use cd_resolve::{Names, resolve_type};
 use cd_sets::node_id::NodeId;
 use cd_syntax::type_tree::{Declarations, Tree};
+use cd_verdicts::Verdict;
 use std::alloc::{AllocError, Global};
 
 /// How many of the first queries are answered with yes: whether `[(0--i)*]` is within

@@ -12,7 +12,7 @@ use Rattle.cd_rules.specs.Clauses.{Pair}
 use Rattle.cd_rules.specs.Family.{AsksNodes}
 use Rattle.cd_rules.specs.Members.{HasElement}
 use Rattle.cd_rules.specs.Within.{IsPairWithin}
-use Rattle.cd_empty.specs.Verdicts.{HasNoElement}
+use Rattle.cd_verdicts.specs.Verdicts.{HasNoElement}
 use Rattle.cd_apply.specs.Inner.Results.{IsInQuestion, IsInOne, IsBeyond, IsRight, IsResult}
 use Rattle.cd_apply.specs.Inner.Results.{IsResultIn}
 

@@ -9,7 +9,7 @@ use Rattle.cd_model.specs.Interfaces.{Interfaces, value_in_node}
 use Rattle.cd_model.specs.Thing.{Thing, IsElement, IsValue}
 use Rattle.cd_model.specs.Types.{Answers}
 use Rattle.cd_products.specs.Products.{AreInterfacesOf}
-use Rattle.cd_empty.specs.Verdicts.{HasNoElement, HasNoValue}
+use Rattle.cd_verdicts.specs.Verdicts.{HasNoElement, HasNoValue}
 
 -- what is in one of the two nodes is in `own`, and what is in `own` is in the first or else in the
 -- second

@@ -1,9 +1,9 @@
 -- What is done for the question of a frame.
-use Rattle.std.specs.Prelude.{◌≡◌, length, map}
+use Rattle.std.specs.Prelude.{◌≡◌, length}
 use Rattle.cd_sets.specs.declared.question.Question.{Question}
 use Rattle.cd_model.specs.Formula.{Graph}
 use Rattle.cd_elements.specs.Table.{Names, element_at}
-use Rattle.cd_rules.specs.Machine.{Works, IsDone, IsWitness, NotIn}
+use Rattle.cd_rules.specs.Machine.{Works, IsDone, IsWitness}
 use Rattle.cd_rules.specs.Family.{AsksNodes}
 use Rattle.cd_empty.specs.declared.decider.Decider.{Decider}
 use Rattle.cd_empty.specs.declared.frame.Frame.{Frame}
@@ -12,11 +12,11 @@ use Rattle.cd_empty.specs.declared.doing.Doing.TheVariants.{Worked, Nothing, Wan
 use Rattle.cd_empty.specs.Inner.Fit.{IsFit}
 use Rattle.cd_empty.specs.Inner.PlainFrame.{plain_work, known}
 use Rattle.cd_empty.specs.Kept.{table, kept}
+use Rattle.cd_verdicts.specs.Looking.{IsNew}
 
 -- nothing is known of a question
 abbrev pub IsUnknown : Decider → Question → Type 0
-IsUnknown decider question = NotIn (map (λ one. one.0) (kept decider)) question
-    × NotIn decider.list question
+IsUnknown decider question = IsNew (kept decider) decider.list question
 
 module _ (graph : Graph) (decider : Decider) (before after : Frame) where
   -- the frame is as it was, and fits

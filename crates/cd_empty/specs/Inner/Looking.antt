@@ -1,24 +1,17 @@
--- What is known of questions.
+-- What is known of questions that all have to have elements.
 use Rattle.std.specs.Prelude.{◌≡◌, List, [], ◌∷◌, ◌++◌, Option, Some, None}
 use Rattle.cd_sets.specs.declared.question.Question.{Question}
 use Rattle.cd_model.specs.AllOf.{AnyOf}
 use Rattle.cd_elements.specs.declared.shape.ElementId.{ElementId}
 use Rattle.cd_rules.specs.Family.{IsSubsumed}
 use Rattle.cd_empty.specs.declared.decider.Decider.{Decider}
-use Rattle.cd_empty.specs.declared.look.Look.{Look}
-use Rattle.cd_empty.specs.declared.look.Look.TheVariants as look
-use Rattle.cd_empty.specs.declared.look.Parts.{Parts}
-use Rattle.cd_empty.specs.declared.look.Parts.TheVariants.{Missing, Unknown, Are}
-use Rattle.cd_empty.specs.declared.verdict.Verdict.TheVariants.{Inhabited}
+use Rattle.cd_empty.specs.declared.parts.Parts.{Parts}
+use Rattle.cd_empty.specs.declared.parts.Parts.TheVariants.{Missing, Unknown, Are}
+use Rattle.cd_verdicts.specs.declared.verdict.Verdict.TheVariants.{Inhabited}
 use Rattle.cd_empty.specs.Inner.PlainFrame.{known}
 use Rattle.cd_empty.specs.Inner.Doing.{IsUnknown}
 use Rattle.cd_empty.specs.Kept.{kept}
-use Rattle.cd_empty.specs.Verdicts.{IsKept}
-
-abbrev pub IsSeen : Decider → Question → Look → Type 0
-IsSeen decider question look.Empty = IsSubsumed question (known decider)
-IsSeen decider question (look.Has id) = IsKept (kept decider) question (Inhabited id)
-IsSeen decider question look.Unknown = IsUnknown decider question
+use Rattle.cd_verdicts.specs.Verdicts.{IsKept}
 
 -- these elements are kept for the questions, in their order
 abbrev pub HaveElements : Decider → List ElementId → List Question → Type 0

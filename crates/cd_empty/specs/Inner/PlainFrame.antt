@@ -10,7 +10,7 @@ use Rattle.cd_tasks.specs.PlainTask.{plain_task}
 use Rattle.cd_empty.specs.declared.decider.Decider.{Decider}
 use Rattle.cd_empty.specs.declared.frame.Frame.{Frame}
 use Rattle.cd_empty.specs.Kept.{kept, witnesses}
-use Rattle.cd_empty.specs.Verdicts.{family}
+use Rattle.cd_verdicts.specs.Verdicts.{family}
 
 abbrev pub plain_work : Frame → Work
 plain_work frame = work (partials frame.conjuncts) (option_map plain_clause frame.clause)

@@ -11,7 +11,7 @@ use Rattle.cd_empty.specs.declared.decider.Decider.{Decider}
 use Rattle.cd_empty.specs.declared.frame.Frame.{Frame}
 use Rattle.cd_empty.specs.declared.went.Went.{Went}
 use Rattle.cd_empty.specs.declared.went.Went.TheVariants.{Worked, Opened, Found, Done}
-use Rattle.cd_empty.specs.declared.verdict.Verdict.{Verdict}
+use Rattle.cd_verdicts.specs.declared.verdict.Verdict.{Verdict}
 use Rattle.cd_empty.specs.Inner.Fit.{IsFit}
 use Rattle.cd_empty.specs.Inner.PlainFrame.{state_of, settled}
 use Rattle.cd_empty.specs.Kept.{IsSound, table, kept, witnesses}

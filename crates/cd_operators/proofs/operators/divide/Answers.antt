@@ -5,8 +5,8 @@ use Rattle.cd_model.specs.Formula.{Graph}
 use Rattle.cd_rules.specs.Needs.{question}
 use Rattle.cd_typing.specs.Typ.{In}
 use Rattle.cd_empty.specs.Seen.{graph_of, table_of}
-use Rattle.cd_empty.specs.Verdicts.{IsExact}
-use Rattle.cd_empty.specs.declared.verdict.Verdict.TheVariants.{Empty, Inhabited}
+use Rattle.cd_verdicts.specs.Verdicts.{IsExact}
+use Rattle.cd_verdicts.specs.declared.verdict.Verdict.TheVariants.{Empty, Inhabited}
 use Rattle.cd_operators.specs.Tools.{AreTools}
 use Rattle.cd_operators.proofs.BuiltInNodes.{type_stays, node_within}
 use Rattle.cd_operators.proofs.Refused.{misfit_of_quotient}

@@ -2,7 +2,7 @@ use Rattle.std.proofs.Common.{IfOk, length, subst, sym}
 use Rattle.cd_sets.specs.declared.question.Question.{Question}
 use Rattle.cd_rules.specs.Family.{AsksNodes}
 use Rattle.cd_empty.specs.Seen.{graph_of, table_of}
-use Rattle.cd_empty.specs.Verdicts.{IsExact}
+use Rattle.cd_verdicts.specs.Verdicts.{IsExact}
 use Rattle.cd_operators.proofs.ZeroAsked.{asks}
 use Rattle.cd_operators.proofs.operators.zeros.Goals as goal
 

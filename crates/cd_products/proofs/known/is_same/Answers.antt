@@ -2,7 +2,7 @@ use Rattle.std.proofs.Common.{◌∷◌, [], subst}
 use Rattle.cd_model.specs.Formula.{Graph}
 use Rattle.cd_rules.specs.Needs.{question}
 use Rattle.cd_empty.specs.Seen.{graph_of}
-use Rattle.cd_empty.specs.Verdicts.{HasNoElement, HasNoValue}
+use Rattle.cd_verdicts.specs.Verdicts.{HasNoElement, HasNoValue}
 use Rattle.cd_products.proofs.SameNodes.{hold_same}
 use Rattle.cd_products.proofs.known.is_same.Goals as goal
 

@@ -2,7 +2,7 @@ use Rattle.std.proofs.Common.{sym, subst, length}
 use Rattle.cd_sets.specs.declared.question.Question.{Question}
 use Rattle.cd_rules.specs.Family.{AsksNodes}
 use Rattle.cd_empty.specs.Seen.{graph_of, table_of}
-use Rattle.cd_empty.specs.Verdicts.{IsExact}
+use Rattle.cd_verdicts.specs.Verdicts.{IsExact}
 use Rattle.cd_products.specs.QuestionBoxes.{within_node}
 use Rattle.cd_model.specs.BuiltIns.{NIL}
 use Rattle.cd_sequences.proofs.NilAsked.{nil_asks, nil_outside, nil_inside}

@@ -1,6 +1,6 @@
 use Rattle.std.proofs.Common.{subst}
 use Rattle.cd_empty.specs.Seen.{graph_of, table_of}
-use Rattle.cd_empty.specs.Verdicts.{IsExact}
+use Rattle.cd_verdicts.specs.Verdicts.{IsExact}
 use Rattle.cd_sites.proofs.WrittenTaken.{none_by_verdict, one_by_verdict}
 use Rattle.cd_sites.proofs.take.taken.Goals as goal
 

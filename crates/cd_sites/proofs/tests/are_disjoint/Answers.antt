@@ -1,5 +1,5 @@
 use Rattle.std.proofs.Common.{[], ◌∷◌, subst}
-use Rattle.cd_empty.specs.Verdicts.{HasNoElement}
+use Rattle.cd_verdicts.specs.Verdicts.{HasNoElement}
 use Rattle.cd_rules.specs.Needs.{question}
 use Rattle.cd_sites.proofs.tests.are_disjoint.Goals as goal
 

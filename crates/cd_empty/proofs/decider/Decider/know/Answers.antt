@@ -3,7 +3,7 @@ use Rattle.cd_sets.specs.declared.question.Question.{Question}
 use Rattle.cd_graph.specs.Nodes.{nodes}
 use Rattle.cd_elements.specs.Table.{element_at}
 use Rattle.cd_empty.specs.declared.decider.Decider.{Decider}
-use Rattle.cd_empty.specs.declared.verdict.Verdict.TheVariants.{Inhabited}
+use Rattle.cd_verdicts.specs.declared.verdict.Verdict.TheVariants.{Inhabited}
 use Rattle.cd_empty.specs.Inner.Running.{KeepsKnown}
 use Rattle.cd_empty.specs.Kept.{table}
 use Rattle.cd_empty.proofs.ElementsKept.{sound_over_more, sound_with_one, witness_more, known_witnesses, keeps_with_one, keeps_then, keeps_known}

@@ -1,7 +1,7 @@
 use Rattle.std.proofs.Common.{[], ◌∷◌, ◌++◌, sym, ap, subst, ◌∙◌}
 use Rattle.cd_graph.specs.Nodes.{nodes}
 use Rattle.cd_empty.specs.Kept.{IsSound, witnesses}
-use Rattle.cd_empty.specs.Verdicts.{family}
+use Rattle.cd_verdicts.specs.Verdicts.{family}
 use Rattle.cd_empty.proofs.ElementsKept.{known_witnesses, sound_with_list}
 use Rattle.cd_empty.proofs.OpenedQuestions.{stepped_by_basic}
 use Rattle.cd_empty.proofs.RunningDeciders.{running_on, same_state, stepped_from}

@@ -4,7 +4,7 @@ use Rattle.cd_empty.specs.Kept.{table, kept}
 use Rattle.cd_empty.proofs.ElementsKept.{keeps_then}
 use Rattle.cd_empty.proofs.ProgressOfRuns.{stopped_at_question}
 use Rattle.cd_empty.proofs.RunningDeciders.{runs_then}
-use Rattle.cd_empty.proofs.WitnessesOfVerdicts.{few_witnesses}
+use Rattle.cd_verdicts.proofs.WitnessesOfVerdicts.{few_witnesses}
 use Rattle.cd_empty.proofs.decider.Decider.to_element.Goals as goal
 
 -- there are no more elements than verdicts

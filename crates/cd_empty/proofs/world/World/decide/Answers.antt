@@ -3,7 +3,7 @@ use Rattle.std.proofs.lemmas.Result.{IfOk-weaker}
 use Rattle.cd_graph.specs.Nodes.{nodes}
 use Rattle.cd_empty.specs.Kept.{table, kept}
 use Rattle.cd_empty.specs.Seen.{Seen, graph_of}
-use Rattle.cd_empty.specs.Verdicts.{IsExact}
+use Rattle.cd_verdicts.specs.Verdicts.{IsExact}
 use Rattle.cd_empty.proofs.ExactVerdicts.{all_exact, of_kept}
 use Rattle.cd_empty.proofs.world.World.decide.Goals as goal
 

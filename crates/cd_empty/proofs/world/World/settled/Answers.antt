@@ -3,11 +3,11 @@ use Rattle.cd_sets.specs.declared.question.Question.{Question}
 use Rattle.cd_graph.specs.Nodes.{nodes}
 use Rattle.cd_model.specs.AllOf.{AllOf}
 use Rattle.cd_rules.specs.Family.{AsksNodes}
-use Rattle.cd_empty.specs.declared.verdict.Verdict.{Verdict}
+use Rattle.cd_verdicts.specs.declared.verdict.Verdict.{Verdict}
 use Rattle.cd_empty.specs.Seen.{Seen, graph_of, table_of, kept}
-use Rattle.cd_empty.specs.Verdicts.{IsExact, IsKept}
+use Rattle.cd_verdicts.specs.Verdicts.{IsExact, IsKept}
 use Rattle.cd_empty.proofs.ExactVerdicts.{all_exact}
-use Rattle.cd_empty.proofs.VerdictsFound.{found_or_none, one_verdict}
+use Rattle.cd_verdicts.proofs.VerdictsFound.{found_or_none, one_verdict}
 use Rattle.cd_empty.proofs.world.World.settled.Goals as goal
 
 pub returns-clause-found : goal.returns-clause-found

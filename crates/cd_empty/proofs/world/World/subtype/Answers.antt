@@ -2,7 +2,7 @@ use Rattle.std.proofs.Common.{IfOk, subst}
 use Rattle.std.proofs.lemmas.Result.{IfOk-weaker}
 use Rattle.cd_sets.specs.declared.question.Question.{Question}
 use Rattle.cd_empty.specs.Seen.{graph_of, table_of}
-use Rattle.cd_empty.specs.Verdicts.{IsExact}
+use Rattle.cd_verdicts.specs.Verdicts.{IsExact}
 use Rattle.cd_empty.proofs.Subtypes.{each_element_within, each_value_within}
 use Rattle.cd_empty.proofs.world.World.subtype.Goals as goal
 

@@ -1,0 +1,6 @@
+pub mod Numbering
+pub mod VerdictsFound
+pub mod QuestionsDiffer
+pub mod SettledLists
+pub mod QuestionsSeen
+pub mod WitnessesOfVerdicts
