@@ -19,19 +19,19 @@ use Rattle.cd_rules.specs.Family.{AsksNodes}
 use Rattle.cd_filter.specs.CapturedFormulas.{Entry, of_entry, IsOfVariable}
 use Rattle.cd_filter.specs.CapturedNodes.{Reaches}
 use Rattle.cd_filter.specs.Table.{Place, Step, Gathers, Table, HasStep}
-use Rattle.cd_captured.specs.CaptureNodes.{IsFormulaOf, IsCaptureNode, AreCaptureNodes}
-use Rattle.cd_captured.specs.declared.givers.Giver.{Giver}
-use Rattle.cd_captured.specs.declared.step.Step.{Step as CodeStep}
-use Rattle.cd_captured.specs.declared.step.Step.TheVariants as step
-use Rattle.cd_captured.specs.declared.want.Want.TheVariants.{Captures}
-use Rattle.cd_captured.specs.Inner.Givers.{gives, givers_of}
-use Rattle.cd_captured.specs.Inner.Made.{IsNodeOfWant, IsMember, IsCapture, AreFormulas}
-use Rattle.cd_captured.specs.Inner.Plan.{Plan}
-use Rattle.cd_captured.specs.Inner.PlainSteps.{IsStep, AreEntries}
-use Rattle.cd_captured.specs.Inner.Reached.{ReachesBy}
+use Rattle.cd_explored.specs.CaptureNodes.{IsFormulaOf, IsCaptureNode, AreCaptureNodes}
+use Rattle.cd_explored.specs.declared.givers.Giver.{Giver}
+use Rattle.cd_explored.specs.declared.step.Step.{Step as CodeStep}
+use Rattle.cd_explored.specs.declared.step.Step.TheVariants as step
+use Rattle.cd_explored.specs.declared.want.Want.TheVariants.{Captures}
+use Rattle.cd_explored.specs.Inner.Givers.{gives, givers_of}
+use Rattle.cd_explored.specs.Inner.Made.{IsNodeOfWant, IsMember, IsCapture, AreFormulas}
+use Rattle.cd_explored.specs.Inner.Plan.{Plan}
+use Rattle.cd_explored.specs.Inner.PlainSteps.{IsStep, AreEntries}
+use Rattle.cd_explored.specs.Inner.Reached.{ReachesBy}
 use Rattle.cd_captured.proofs.EntriesMade.{IsEntryOf, HasTexts, entry_holds}
-use Rattle.cd_captured.proofs.GiversFound.{giver, each_giver, giver_there}
-use Rattle.cd_captured.proofs.Listed.{got_contains, contains_any, any_contains}
+use Rattle.cd_explored.proofs.GiversFound.{giver, each_giver, giver_there}
+use Rattle.cd_explored.proofs.Listed.{got_contains, contains_any, any_contains}
 use Rattle.cd_captured.proofs.NodesFound.{id_of, id_found}
 use Rattle.cd_captured.proofs.QuestionsKept.{HoldsQuestions, of_elements, of_values}
 use Rattle.cd_captured.proofs.Tables.{one_step, step_there, code_there, reaches, reached_by}

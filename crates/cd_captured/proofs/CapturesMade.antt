@@ -12,19 +12,19 @@ use Rattle.cd_model.proofs.Ones.{each_weaker}
 use Rattle.cd_rules.proofs.Asking.{each_of_map}
 use Rattle.cd_filter.specs.Accepting.{IsAcceptedFrom, place_of}
 use Rattle.cd_filter.specs.Table.{Place, Step, Table, first_place}
-use Rattle.cd_captured.specs.CaptureNodes.{AreNodesOfVariables}
-use Rattle.cd_captured.specs.Captures.{AreExactCaptures, AreWideCaptures}
-use Rattle.cd_captured.specs.Explored.{IsPlace, IsExplored}
-use Rattle.cd_captured.specs.declared.want.Want.TheVariants.{Captures}
-use Rattle.cd_captured.specs.Inner.Made.{AreFormulas}
-use Rattle.cd_captured.specs.Inner.Plan.{Plan, IsSoundPlan, plan_from, named_from, StandOnce}
-use Rattle.cd_captured.specs.Inner.PlainSteps.{AreEntries}
-use Rattle.cd_captured.specs.Inner.Reached.{Rows}
+use Rattle.cd_explored.specs.CaptureNodes.{AreNodesOfVariables}
+use Rattle.cd_explored.specs.Captures.{AreExactCaptures, AreWideCaptures}
+use Rattle.cd_explored.specs.Explored.{IsPlace, IsExplored}
+use Rattle.cd_explored.specs.declared.want.Want.TheVariants.{Captures}
+use Rattle.cd_explored.specs.Inner.Made.{AreFormulas}
+use Rattle.cd_explored.specs.Inner.Plan.{Plan, IsSoundPlan, plan_from, named_from, StandOnce}
+use Rattle.cd_explored.specs.Inner.PlainSteps.{AreEntries}
+use Rattle.cd_explored.specs.Inner.Reached.{Rows}
 use Rattle.cd_captured.proofs.CaptureNodesMade.{id, id_is, capture_nodes}
 use Rattle.cd_captured.proofs.ConstantsPut.{rows_are_sound, text_of_put}
 use Rattle.cd_captured.proofs.EntriesMade.{HasTexts}
-use Rattle.cd_captured.proofs.ExactCaptures.{exact_captures, wide_captures}
-use Rattle.cd_captured.proofs.FormulasMade.{batch_sound}
+use Rattle.cd_explored.proofs.ExactCaptures.{exact_captures, wide_captures}
+use Rattle.cd_explored.proofs.FormulasMade.{batch_sound}
 use Rattle.cd_captured.proofs.NamedNodes.{ids_from, id_from, ids_below}
 
 module _ (graph : Graph) (kernel : Kernel NodeId) (first : ℕ) (matched : NodeId)

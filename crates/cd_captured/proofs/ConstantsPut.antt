@@ -20,13 +20,13 @@ use Rattle.cd_filter.specs.Capturing.{AreSteps, IsSettled}
 use Rattle.cd_filter.specs.Table.{Place, Step, Takes, Puts, Leads, Table, IsAmong, HasStep}
 use Rattle.cd_filter.specs.Table.{at, pair_steps, gather_steps, triple_steps, cell_steps, row_steps}
 use Rattle.cd_filter.proofs.Steps.{entry_of}
-use Rattle.cd_captured.specs.Explored.{IsSettledPlace}
-use Rattle.cd_captured.specs.declared.step.Step.{Step as CodeStep}
-use Rattle.cd_captured.specs.declared.step.Step.TheVariants as step
-use Rattle.cd_captured.specs.Inner.Plan.{IsSoundStep, text_in, text_of}
-use Rattle.cd_captured.specs.Inner.PlainSteps.{IsStep, AreEntries}
-use Rattle.cd_captured.specs.Inner.PlainSteps as plain
-use Rattle.cd_captured.specs.Inner.Reached.{Rows}
+use Rattle.cd_explored.specs.Explored.{IsSettledPlace}
+use Rattle.cd_explored.specs.declared.step.Step.{Step as CodeStep}
+use Rattle.cd_explored.specs.declared.step.Step.TheVariants as step
+use Rattle.cd_explored.specs.Inner.Plan.{IsSoundStep, text_in, text_of}
+use Rattle.cd_explored.specs.Inner.PlainSteps.{IsStep, AreEntries}
+use Rattle.cd_explored.specs.Inner.PlainSteps as plain
+use Rattle.cd_explored.specs.Inner.Reached.{Rows}
 
 abbrev IsPut : Step → Type 0
 IsPut (Puts variable constant) = Unit {0}

@@ -16,15 +16,15 @@ use Rattle.cd_rules.specs.Family.{AsksNodes}
 use Rattle.cd_filter.specs.CapturedFormulas.{Entry, IsStepFormula}
 use Rattle.cd_filter.specs.CapturedNodes.{GivesAt}
 use Rattle.cd_filter.specs.Table.{Place, Step, Puts, Table, HasStep}
-use Rattle.cd_captured.specs.declared.givers.Giver.{Giver}
-use Rattle.cd_captured.specs.declared.step.Step.{Step as CodeStep}
-use Rattle.cd_captured.specs.declared.step.Step.TheVariants as step
-use Rattle.cd_captured.specs.declared.want.Want.{Want}
-use Rattle.cd_captured.specs.declared.want.Want.TheVariants.{Captures}
-use Rattle.cd_captured.specs.Inner.Givers.{gives}
-use Rattle.cd_captured.specs.Inner.Made.{IsNodeOfWant, IsPut, IsGiven, IsMember, AreMade, text_at}
-use Rattle.cd_captured.specs.Inner.Plan.{Plan, text_of}
-use Rattle.cd_captured.specs.Inner.PlainSteps.{IsStep}
+use Rattle.cd_explored.specs.declared.givers.Giver.{Giver}
+use Rattle.cd_explored.specs.declared.step.Step.{Step as CodeStep}
+use Rattle.cd_explored.specs.declared.step.Step.TheVariants as step
+use Rattle.cd_explored.specs.declared.want.Want.{Want}
+use Rattle.cd_explored.specs.declared.want.Want.TheVariants.{Captures}
+use Rattle.cd_explored.specs.Inner.Givers.{gives}
+use Rattle.cd_explored.specs.Inner.Made.{IsNodeOfWant, IsPut, IsGiven, IsMember, AreMade, text_at}
+use Rattle.cd_explored.specs.Inner.Plan.{Plan, text_of}
+use Rattle.cd_explored.specs.Inner.PlainSteps.{IsStep}
 use Rattle.cd_model.proofs.ReadHeads.{in_it, Holds as HoldsOf, pair_holds}
 use Rattle.cd_captured.proofs.QuestionsKept.{HoldsQuestions}
 use Rattle.cd_captured.proofs.WantedNodes.{StandFrom, coming_holds, coming_node, constant_holds}

@@ -11,7 +11,7 @@ use Rattle.cd_model.proofs.BothWays.{itself, through, turned}
 use Rattle.cd_matching.specs.Kernel.{Kernel, IsSound}
 use Rattle.cd_products.specs.Keeping.{HoldSame}
 use Rattle.cd_filter.proofs.CapturedSound.{values_captured}
-use Rattle.cd_captured.specs.Captures.{AreExactCaptures, AreWideCaptures}
+use Rattle.cd_explored.specs.Captures.{AreExactCaptures, AreWideCaptures}
 use Rattle.cd_captured.specs.Inner.Known.{AreSame, StandFor, ids_of, names_of}
 
 -- what is found at a place

@@ -6,7 +6,7 @@ use Rattle.cd_sets.specs.declared.node_id.NodeId.{NodeId}
 use Rattle.cd_syntax.specs.Name.{Name}
 use Rattle.cd_model.specs.AllOf.{AllOf}
 use Rattle.cd_model.specs.BuiltIns.{node}
-use Rattle.cd_captured.specs.Inner.Plan.{named_from}
+use Rattle.cd_explored.specs.Inner.Plan.{named_from}
 
 abbrev pub ids_from : (first : ℕ) → List Name → List NodeId
 ids_from first names = map (λ one. one.1) (named_from first names)

@@ -9,9 +9,9 @@ use Rattle.cd_sets.specs.Asking.{same_question}
 use Rattle.cd_sets.proofs.Same.{questions_decide}
 use Rattle.cd_model.specs.BuiltIns.{node}
 use Rattle.cd_filter.specs.Table.{Place}
-use Rattle.cd_captured.specs.declared.want.Want.{Want}
-use Rattle.cd_captured.specs.declared.want.Want.TheVariants.{Comes, Captures, Text, Character}
-use Rattle.cd_captured.specs.Inner.Wanted.{AreOnce}
+use Rattle.cd_explored.specs.declared.want.Want.{Want}
+use Rattle.cd_explored.specs.declared.want.Want.TheVariants.{Comes, Captures, Text, Character}
+use Rattle.cd_explored.specs.Inner.Wanted.{AreOnce}
 use Rattle.cd_captured.proofs.Found.{find, find_one}
 
 abbrev same_place : Place → Place → Bool

@@ -9,12 +9,12 @@ use Rattle.cd_model.specs.AllOf.{AnyOf}
 use Rattle.cd_filter.specs.CapturedNodes as plain
 use Rattle.cd_filter.specs.CapturedNodes.{Reaches}
 use Rattle.cd_filter.specs.Table.{Place, Step, Leads, Gathers, Table, IsAmong, HasStep}
-use Rattle.cd_captured.specs.declared.step.Step.{Step as CodeStep}
-use Rattle.cd_captured.specs.declared.step.Step.TheVariants as step
-use Rattle.cd_captured.specs.Inner.PlainSteps.{IsStep, AreSteps, AreEntries}
-use Rattle.cd_captured.specs.Inner.Reached.{Rows, is_left_out, led_to, ReachesBy, itself}
-use Rattle.cd_captured.specs.Inner.Reached.{further}
-use Rattle.cd_captured.proofs.Listed.{contains_any, any_contains}
+use Rattle.cd_explored.specs.declared.step.Step.{Step as CodeStep}
+use Rattle.cd_explored.specs.declared.step.Step.TheVariants as step
+use Rattle.cd_explored.specs.Inner.PlainSteps.{IsStep, AreSteps, AreEntries}
+use Rattle.cd_explored.specs.Inner.Reached.{Rows, is_left_out, led_to, ReachesBy, itself}
+use Rattle.cd_explored.specs.Inner.Reached.{further}
+use Rattle.cd_explored.proofs.Listed.{contains_any, any_contains}
 
 -- a step of a table by its kind
 abbrev IsLeading : Step → Type 0

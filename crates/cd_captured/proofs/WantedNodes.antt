@@ -19,11 +19,11 @@ use Rattle.cd_matching.specs.Sequences.{thing_of}
 use Rattle.cd_matching.specs.Sequences as sequences
 use Rattle.cd_rules.specs.Family.{AsksNodes}
 use Rattle.cd_filter.specs.Table.{Place}
-use Rattle.cd_captured.specs.declared.want.Want.{Want}
-use Rattle.cd_captured.specs.declared.want.Want.TheVariants.{Comes, Text, Character}
-use Rattle.cd_captured.specs.Inner.Made.{IsNodeOfWant, IsComing, IsText, IsConstant, IsMade}
-use Rattle.cd_captured.specs.Inner.Made.{AreMade, text_at}
-use Rattle.cd_captured.specs.Inner.Plan.{Plan, text_of}
+use Rattle.cd_explored.specs.declared.want.Want.{Want}
+use Rattle.cd_explored.specs.declared.want.Want.TheVariants.{Comes, Text, Character}
+use Rattle.cd_explored.specs.Inner.Made.{IsNodeOfWant, IsComing, IsText, IsConstant, IsMade}
+use Rattle.cd_explored.specs.Inner.Made.{AreMade, text_at}
+use Rattle.cd_explored.specs.Inner.Plan.{Plan, text_of}
 use Rattle.cd_model.proofs.ReadHeads.{in_it, Holds as HoldsOf, integer_holds, character_holds, atom_holds}
 use Rattle.cd_model.proofs.ReadHeads.{pair_holds, IsPairIn}
 use Rattle.cd_model.specs.Leaves.{one_character}

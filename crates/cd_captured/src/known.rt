@@ -6,12 +6,12 @@ ghost use Rattle.cd_products.specs.Keeping.{HoldSame};
 ghost use Rattle.cd_empty.specs.Growth.{Grows};
 ghost use Rattle.cd_empty.specs.Seen.{graph_of};
 ghost use Rattle.cd_captured.specs.Inner.Known.{StandFor};
-ghost use Rattle.cd_captured.specs.Inner.PlainSteps.{plain_places};
+ghost use Rattle.cd_explored.specs.Inner.PlainSteps.{plain_places};
 
-use crate::explore::Explored;
-use crate::givers::gives;
-use crate::step::Step;
 use cd_empty::World;
+use cd_explored::explore::Explored;
+use cd_explored::givers::gives;
+use cd_explored::step::Step;
 use cd_products::known_node;
 use cd_sets::node_id::NodeId;
 use cd_syntax::name::Name;

@@ -10,7 +10,7 @@ use Rattle.cd_model.specs.Thing.{Thing}
 use Rattle.cd_matching.specs.PlainKernel.{plain_kernel}
 use Rattle.cd_meaning.specs.Sets.{elements_of}
 use Rattle.cd_typing.specs.Branches.{HoldCaptured}
-use Rattle.cd_captured.specs.Captures.{AreExactCaptures}
+use Rattle.cd_explored.specs.Captures.{AreExactCaptures}
 use Rattle.cd_sites.specs.CapturedTypes.{types_of, HoldNoMore}
 use Rattle.cd_sites.specs.Sites.{IsSite}
 use Rattle.cd_sites.specs.declared.site.Site.{Site}

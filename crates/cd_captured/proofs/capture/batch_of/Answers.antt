@@ -1,4 +1,4 @@
-use Rattle.cd_captured.proofs.PlacesRead.{places_once}
+use Rattle.cd_explored.proofs.PlacesRead.{places_once}
 use Rattle.cd_captured.proofs.capture.batch_of.Goals as goal
 
 pub returns-clause-once : goal.returns-clause-once

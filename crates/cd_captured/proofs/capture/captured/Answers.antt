@@ -9,12 +9,12 @@ use Rattle.cd_matching.specs.PlainKernel.{plain_kernel}
 use Rattle.cd_rules.specs.Family.{AsksNodes}
 use Rattle.cd_empty.specs.Seen.{graph_of}
 use Rattle.cd_filter.specs.Table.{Place}
-use Rattle.cd_captured.specs.Captures.{AreExactCaptures, AreWideCaptures}
+use Rattle.cd_explored.specs.Captures.{AreExactCaptures, AreWideCaptures}
 use Rattle.cd_captured.specs.Inner.Known.{StandFor, ids_of}
-use Rattle.cd_captured.specs.Inner.Made.{AreFormulas}
-use Rattle.cd_captured.specs.Inner.Plan.{IsSoundPlan, plan_from, named_from}
-use Rattle.cd_captured.specs.Inner.PlainSteps.{plain_places}
-use Rattle.cd_captured.specs.Inner.Reached.{Rows, rows_of}
+use Rattle.cd_explored.specs.Inner.Made.{AreFormulas}
+use Rattle.cd_explored.specs.Inner.Plan.{IsSoundPlan, plan_from, named_from}
+use Rattle.cd_explored.specs.Inner.PlainSteps.{plain_places}
+use Rattle.cd_explored.specs.Inner.Reached.{Rows, rows_of}
 use Rattle.cd_captured.proofs.CapturesMade.{plan_sound, extends_soundly, ids_are_below, still_ask}
 use Rattle.cd_captured.proofs.CapturesMade.{exact, wide}
 use Rattle.cd_captured.proofs.KnownNodes.{exact_too, wide_too}

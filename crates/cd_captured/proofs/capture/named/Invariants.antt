@@ -1,5 +1,5 @@
 use Rattle.std.proofs.Common.{◌≡◌, ◌+◌, ◌++◌, drop}
-use Rattle.cd_captured.specs.Inner.Plan.{named_from}
+use Rattle.cd_explored.specs.Inner.Plan.{named_from}
 use Rattle.cd_captured.proofs.capture.named.Given as goal
 
 -- the names so far, and those that are left, are all

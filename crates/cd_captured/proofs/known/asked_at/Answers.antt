@@ -2,8 +2,8 @@ use Rattle.std.proofs.Common.{◌<◌, sym, subst}
 use Rattle.cd_model.specs.AllOf.{AllOf}
 use Rattle.cd_model.proofs.ByNumber.{all_got}
 use Rattle.cd_rules.specs.Family.{AsksNodes}
-use Rattle.cd_captured.specs.Inner.PlainSteps.{plain_place, plain_places}
-use Rattle.cd_captured.proofs.PlacesRead.{place_there}
+use Rattle.cd_explored.specs.Inner.PlainSteps.{plain_place, plain_places}
+use Rattle.cd_explored.proofs.PlacesRead.{place_there}
 use Rattle.cd_captured.proofs.known.asked_at.Goals as goal
 
 pub returns-in-Some : goal.returns-in-Some

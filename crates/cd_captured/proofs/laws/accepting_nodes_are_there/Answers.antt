@@ -1,5 +1,0 @@
-use Rattle.cd_captured.proofs.ExactCaptures.{accepts_below}
-use Rattle.cd_captured.proofs.laws.accepting_nodes_are_there.Goals as goal
-
-pub returns : goal.returns
-returns c graph kernel first number is = accepts_below graph kernel first is number
