@@ -1,6 +1,5 @@
 -- What serves private functions. No public clause speaks of it.
 pub mod Joins
-pub mod Computing
 pub mod Merging
 pub mod Comparing
 pub mod Spelling

@@ -6,14 +6,14 @@ ghost use Rattle.cd_typing.specs.Operators as operators;
 ghost use Rattle.cd_evaluation.specs.Integers.{on_integers};
 ghost use Rattle.cd_evaluation.specs.Runs as runs;
 ghost use Rattle.cd_operations.specs.Endings.{plain_ending, IsEnding};
-ghost use Rattle.cd_operations.specs.Inner.Computing as computing;
-ghost use Rattle.cd_operations.specs.Inner.Computing.{plain_computed, calculated};
+ghost use Rattle.cd_integers.specs.Computing as computing;
+ghost use Rattle.cd_integers.specs.Computing.{plain_computed, calculated};
 
 use crate::added::integer;
 use crate::ending::Ending;
-use crate::integers::{Computed, calculate, compares};
 use crate::truths::truth;
 use cd_cells::{Look, ValueId, Values};
+use cd_integers::integers::{Computed, calculate, compares};
 use cd_program::operator::Op;
 use std::alloc::AllocError;
 

@@ -6,7 +6,6 @@ mod arithmetic;
 pub mod constants;
 pub mod ending;
 mod equality;
-mod integers;
 pub mod joins;
 mod merging;
 pub mod operators;
