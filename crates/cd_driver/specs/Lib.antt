@@ -5,5 +5,6 @@ pub mod FilesRead
 pub mod Ending
 pub mod Headline
 pub mod Causes
+pub mod Exit
 pub mod Reasons
 pub mod Inner

@@ -19,6 +19,7 @@ pub use cd_replies::position::place;
 use std::alloc::Global;
 
 mod answer;
+pub mod exit;
 pub mod laws;
 mod request;
 

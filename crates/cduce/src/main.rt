@@ -1,11 +1,9 @@
 //! The program: the words that it was given, the files of the system, and the two standard streams.
 #![tactic(auto)]
 
-mod exit;
-
 use cd_base::real_files::RealFiles;
 use cd_base::real_sink::RealSink;
-use exit::exit_on;
+use cd_driver::exit::exit_on;
 use std::process::ExitCode;
 use std::{env, io};
 

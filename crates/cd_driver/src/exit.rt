@@ -4,12 +4,12 @@ ghost use Rattle.std.specs.Process.{exit_status};
 ghost use Rattle.cd_driver.specs.Command.{texts};
 ghost use Rattle.cd_driver.specs.Outside.{outside};
 ghost use Rattle.cd_base.specs.Status.{status_number};
-ghost use Rattle.cduce.specs.Exit.{Exits};
+ghost use Rattle.cd_driver.specs.Exit.{Exits};
 
+use crate::cduce;
 use cd_base::files::Files;
 use cd_base::sink::Sink;
 use cd_base::status::Status;
-use cd_driver::cduce;
 use std::alloc::Global;
 use std::io;
 use std::io::ErrorKind;
@@ -17,7 +17,7 @@ use std::process::ExitCode;
 
 /// Does what the words ask, and gives what the process exits with. Words that are not UTF-8 have no
 /// listed form, as no words have none.
-pub(crate) fn exit_on<F: Files, S: Sink>(
+pub fn exit_on<F: Files, S: Sink>(
     alloc: Global,
     words: io::Result<Vec<String>>,
     files: &mut F,
