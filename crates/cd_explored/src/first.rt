@@ -91,8 +91,9 @@ fn others(
     }
 }
 
-// Whether it is found that nothing of the rest of a question is in the first node: nothing is
-// taken, or the rest wants the second node, which has nothing in common with the first.
+// Whether it is found that nothing of the rest of a question is in the first node: the rest wants
+// the second node, which has nothing in common with the first, or nothing is taken. The two nodes
+// alone come first, since they are the same for many questions.
 fn is_outside(
     alloc: Global,
     world: &mut World,
@@ -112,16 +113,13 @@ fn is_outside(
 {
     // The contract of this call says that the graph begins with the built-in nodes.
     world.graph();
-    match world.decide(taken)? {
-        Verdict::Empty => Ok(true),
-        Verdict::Inhabited(_) => {
-            if question.pos.contains(choice.own) {
-                are_apart(alloc, world, choice.first, choice.second)
-            } else {
-                Ok(false)
-            }
-        }
+    if !question.pos.contains(choice.own) {
+        return has_nothing(world, taken);
     }
+    if are_apart(alloc, world, choice.first, choice.second)? {
+        return Ok(true);
+    }
+    has_nothing(world, taken)
 }
 
 // Whether nothing is in both nodes.
@@ -139,7 +137,18 @@ fn are_apart(
     ensures grows { Grows world.old world.new }
 {
     let both = question(alloc, &[one, other], &[])?;
-    match world.decide(&both)? {
+    has_nothing(world, &both)
+}
+
+// Whether nothing is in a question.
+fn has_nothing(world: &mut World, question: &Question) -> Result<bool, AllocError>
+    requires { AsksNodes (length (graph_of world.old)) question.now }
+    ensures nothing { IfOk result
+        (λ answer. answer ≡ true → HasNothing (graph_of world.old) question.now) }
+    ensures graph { graph_of world.new ≡ graph_of world.old }
+    ensures grows { Grows world.old world.new }
+{
+    match world.decide(question)? {
         Verdict::Empty => Ok(true),
         Verdict::Inhabited(_) => Ok(false),
     }

@@ -4,6 +4,8 @@ pub mod OneMore
 pub mod QuestionPieces
 pub mod Products
 pub mod Tests
+pub mod DisjointSets
+pub mod SeenEmpty
 pub mod LongerGraphs
 pub mod AmongClauses
 pub mod ClausesOfPairs

@@ -3,5 +3,6 @@ pub mod Tests
 pub mod ClauseBoxes
 pub mod PlainBoxes
 pub mod After
+pub mod Apart
 pub mod Basic
 pub mod Sets

@@ -7,6 +7,7 @@ ghost use Rattle.cd_empty.specs.Seen.{graph_of};
 ghost use Rattle.cd_products.specs.Inner.After.{IsAfter};
 ghost use Rattle.cd_products.specs.Inner.Tests.{IsTest, IsTested, AreOfGraph, keep_boxes};
 
+use crate::seen::one_is_seen_empty;
 use cd_empty::World;
 use cd_sets::question::{Question, Questions};
 use cd_verdicts::Verdict;
@@ -40,6 +41,9 @@ pub(crate) fn keep_one(
         → kept.new.items ≡ kept.old.items ++ keep_boxes test (cells.now ∷ [])) }
     ensures after { IsAfter world.old world.new }
 {
+    if one_is_seen_empty(world.graph(), cells.items())? {
+        return Ok(());
+    }
     if are_inhabited(world, cells.items())? {
         kept.push(cells.copy()?)?;
     }
@@ -47,7 +51,6 @@ pub(crate) fn keep_one(
 }
 
 // Whether each of these questions has an element.
-#[cycle(are_inhabited)]
 fn are_inhabited(world: &mut World, cells: &[Question]) -> Result<bool, AllocError>
     requires { AllOf (AsksNodes (length (graph_of world.old))) cells.now }
     ensures tested { IfOk result (λ answer. IsTested (graph_of world.old) cells.now answer) }
@@ -55,49 +58,9 @@ fn are_inhabited(world: &mut World, cells: &[Question]) -> Result<bool, AllocErr
 {
     match cells {
         [] => Ok(true),
-        [first, rest @ ..] => {
-            if one_contradicts_itself(rest) {
-                return are_inhabited_before(world, rest, first);
-            }
-            match world.decide(first)? {
-                Verdict::Empty => Ok(false),
-                Verdict::Inhabited(_) => are_inhabited(world, rest),
-            }
-        }
+        [first, rest @ ..] => match world.decide(first)? {
+            Verdict::Empty => Ok(false),
+            Verdict::Inhabited(_) => are_inhabited(world, rest),
+        },
     }
-}
-
-// Whether each of these questions has an element, and then one more.
-#[cycle(are_inhabited)]
-fn are_inhabited_before(
-    world: &mut World,
-    cells: &[Question],
-    last: &Question,
-) -> Result<bool, AllocError>
-    requires cells { AllOf (AsksNodes (length (graph_of world.old))) cells.now }
-    requires last { AsksNodes (length (graph_of world.old)) last.now }
-    ensures tested { IfOk result
-        (λ answer. IsTested (graph_of world.old) (last.now ∷ cells.now) answer) }
-    ensures after { IsAfter world.old world.new }
-{
-    if !are_inhabited(world, cells)? {
-        return Ok(false);
-    }
-    match world.decide(last)? {
-        Verdict::Empty => Ok(false),
-        Verdict::Inhabited(_) => Ok(true),
-    }
-}
-
-// Whether one of these questions wants a node that it refuses, so that none of the others has to be
-// decided.
-fn one_contradicts_itself(questions: &[Question]) -> bool {
-    questions
-        .iter()
-        .any(|question| contradicts_itself(question))
-}
-
-fn contradicts_itself(question: &Question) -> bool {
-    let refused = &question.neg;
-    question.pos.ids().iter().any(|id| refused.contains(*id))
 }

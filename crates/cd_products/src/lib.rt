@@ -5,6 +5,7 @@
 mod basic;
 mod clause_box;
 mod cut;
+mod disjoint;
 mod inhabited;
 mod known;
 pub mod laws;
@@ -13,8 +14,10 @@ mod of_pairs;
 mod of_xmls;
 mod question;
 mod refused;
+mod seen;
 mod sets;
 
+pub use disjoint::are_disjoint;
 pub use known::known_node;
 pub use narrowed::{within, without};
 pub use of_pairs::pair_products;

@@ -11,4 +11,3 @@ pub mod DifferencesMade
 pub mod MembersLeft
 pub mod RestsMade
 pub mod LeftElements
-pub mod DisjointTags

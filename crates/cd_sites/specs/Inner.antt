@@ -2,4 +2,3 @@
 pub mod Kernels
 pub mod Differences
 pub mod Members
-pub mod Tags

@@ -9,10 +9,11 @@ ghost use Rattle.cd_sites.specs.Inner.Differences.{IsDifference, IsLeftOver};
 
 use crate::members::members_of;
 use crate::rest::{formula_without, left_of_each};
-use crate::tests::{are_disjoint, is_within};
+use crate::tests::is_within;
 use cd_empty::World;
 use cd_graph::built_in::EMPTY;
 use cd_graph::{Formula, Formulas};
+use cd_products::are_disjoint;
 use cd_sets::node_id::NodeId;
 use std::alloc::{AllocError, Global};
 

@@ -7,11 +7,11 @@ ghost use Rattle.cd_empty.specs.Growth.{Grows};
 ghost use Rattle.cd_empty.specs.Seen.{graph_of};
 ghost use Rattle.cd_sites.specs.Inner.Differences.{IsRest, AreLeft, formulas_in};
 
-use crate::tests::{are_disjoint, is_within};
+use crate::tests::is_within;
 use cd_empty::World;
 use cd_graph::{Formula, Graph};
 use cd_needs::asking::question;
-use cd_products::question_formula;
+use cd_products::{are_disjoint, question_formula};
 use cd_sets::node_id::NodeId;
 use std::alloc::{AllocError, Global};
 

@@ -6,7 +6,7 @@ use Rattle.cd_model.specs.AllOf.{AllOf}
 use Rattle.cd_model.specs.Formula.{Graph, IsGraph, in_node}
 use Rattle.cd_model.specs.Interfaces.{Interfaces, value_in_node}
 use Rattle.cd_model.specs.Thing.{IsElement, IsValue}
-use Rattle.cd_matching.specs.Kernel.{KernelNode}
+use Rattle.cd_matching.specs.Kernel.{KernelNode, Pair, Gather, Xml}
 use Rattle.cd_rules.specs.Family.{AsksNodes}
 use Rattle.cd_products.specs.Products.{AreInterfacesOf}
 use Rattle.cd_filter.specs.Accepting.{place_of}
@@ -18,6 +18,13 @@ use Rattle.cd_explored.specs.NextPlaces.{NextHas}
 pub record IsInRange (graph kernel : ℕ) (place : Place) : Type 0 where
   pub number : place.number < kernel
   pub asks : AsksNodes graph place.question
+
+-- a node whose steps are those of products: of pairs, of items that are gathered, of XML elements
+abbrev pub HasProducts : KernelNode NodeId → Type 0
+HasProducts (Pair p q) = Unit {0}
+HasProducts (Gather variable p q) = Unit {0}
+HasProducts (Xml tag attributes content) = Unit {0}
+HasProducts _ = ⊥
 
 -- by a kernel's nodes, the first of which is accepted by the node with this number
 pub record AreNodeSteps (graph : Graph) (nodes : List (KernelNode NodeId)) (first : ℕ)
