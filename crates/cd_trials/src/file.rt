@@ -1,5 +1,6 @@
 //! A file of data: what may be in it, and how its rows are put and counted.
 use crate::place::place_differs;
+use crate::prefixes::{answer_len, put_differs, read_differs};
 use crate::printed::printed_differs;
 use crate::program::{accepted_differs, refused_differs};
 use crate::question::{apart_differs, within_differs};
@@ -11,8 +12,9 @@ use std::io;
 use toml::Table;
 
 // The members of a file, of a row, of questions, of a place and of a run, with their types.
-const FILE: [(&str, &str); 7] = [
+const FILE: [(&str, &str); 8] = [
     ("row", "array"),
+    ("prefixes", "array"),
     ("questions", "array"),
     ("places", "array"),
     ("accepted", "array"),
@@ -31,6 +33,15 @@ const ROW: [(&str, &str); 9] = [
     ("bytes", "table"),
     ("failing_reads", "array"),
     ("failing_puts", "array"),
+];
+
+const PREFIXES: [(&str, &str); 6] = [
+    ("words", "array"),
+    ("status", "integer"),
+    ("out", "string"),
+    ("err", "string"),
+    ("files", "table"),
+    ("reads", "array"),
 ];
 
 const QUESTIONS: [(&str, &str); 3] = [("types", "string"), ("within", "array"), ("apart", "array")];
@@ -72,8 +83,8 @@ impl Tally {
     }
 }
 
-/// Puts the rows of a file, the pairs of its questions, its places, its runs, its documents, and
-/// its programs.
+/// Puts the rows of a file, the pairs of its questions, its places, its runs, its documents, its
+/// rows of prefixes, and its programs.
 pub(crate) fn put_file(
     rt: &(impl Print + AllocGlobal),
     name: &str,
@@ -106,7 +117,57 @@ pub(crate) fn put_file(
         check(documents, &DOCUMENTS)?;
         put_documents(rt, name, documents, tally)?;
     }
+    put_faulty(rt, name, file, tally)?;
     put_programs(rt, name, file, tally)
+}
+
+// Puts rows with each put and each read that fails.
+fn put_faulty(
+    rt: &(impl Print + AllocGlobal),
+    name: &str,
+    file: &Table,
+    tally: &mut Tally,
+) -> Result<()> {
+    for row in list(file.get("prefixes")) {
+        let row = row.as_table().context("a row of prefixes is no table")?;
+        check(row, &PREFIXES)?;
+        tally.count(rt, name, row_differs(rt.alloc(), row)?)?;
+        put_prefixes(rt, name, row, tally)?;
+        put_reads(rt, name, row, tally)?;
+    }
+    Ok(())
+}
+
+// Puts a row with its put that fails, after each number of bytes.
+fn put_prefixes(
+    rt: &(impl Print + AllocGlobal),
+    name: &str,
+    row: &Table,
+    tally: &mut Tally,
+) -> io::Result<()> {
+    for kept in 0..answer_len(row).saturating_add(1) {
+        tally.count(rt, name, put_differs(rt.alloc(), row, kept)?)?;
+    }
+    Ok(())
+}
+
+// Puts a row with each of its reads that fails.
+fn put_reads(
+    rt: &(impl Print + AllocGlobal),
+    name: &str,
+    row: &Table,
+    tally: &mut Tally,
+) -> io::Result<()> {
+    let mut read: u64 = 0;
+    for file in list(row.get("reads")) {
+        read = read.saturating_add(1);
+        tally.count(
+            rt,
+            name,
+            read_differs(rt.alloc(), row, read, text(Some(file)))?,
+        )?;
+    }
+    Ok(())
 }
 
 // Puts the programs that are accepted, and those that are refused.

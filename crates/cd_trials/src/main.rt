@@ -24,6 +24,10 @@
 //! | `failing_puts` | the puts that fail, on output and on errors, and how many bytes each keeps |
 //! | `times` | how often each part between `«` and `»` is repeated, in all texts of the row |
 //!
+//! A row of `prefixes` has words, an answer and files too: it is answered so; where its put fails
+//! after each possible number of bytes, by a write fault with so many bytes; and where each of its
+//! `reads` fails in turn, by a fault of the file that `reads` names there.
+//!
 //! A row of `places` has a `text`, a byte `at` which it is looked at, and the `line` and `column`
 //! of that byte. A pair of `within` should be answered yes, and one of `apart` no with any element
 //! that is right. Programs of `accepted` should be that by `check`, and of `refused` the texts are a
@@ -36,6 +40,7 @@
 mod answer;
 mod file;
 mod place;
+mod prefixes;
 mod printed;
 mod program;
 mod question;

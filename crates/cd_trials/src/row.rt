@@ -28,8 +28,8 @@ fn answer(alloc: Global, row: &Table, words: &[String]) -> Result<Answer, AllocE
     answer_to(alloc, words, files, failing_puts.as_slice())
 }
 
-// The words of a row.
-fn words_of(alloc: Global, row: &Table) -> Result<Vec<String>, AllocError> {
+/// The words of a row.
+pub(crate) fn words_of(alloc: Global, row: &Table) -> Result<Vec<String>, AllocError> {
     let mut words = Vec::new(alloc);
     for word in list(row.get("words")) {
         words.push(repeated(alloc, row, Some(word))?)?;
@@ -37,8 +37,8 @@ fn words_of(alloc: Global, row: &Table) -> Result<Vec<String>, AllocError> {
     Ok(words)
 }
 
-// The names and bytes of the files of a row.
-fn files_of(alloc: Global, row: &Table) -> Result<Vec<(String, Vec<u8>)>, AllocError> {
+/// The names and bytes of the files of a row.
+pub(crate) fn files_of(alloc: Global, row: &Table) -> Result<Vec<(String, Vec<u8>)>, AllocError> {
     let mut files = Vec::new(alloc);
     if let Some(Value::Table(texts)) = row.get("files") {
         for (name, text) in texts {
