@@ -11,7 +11,7 @@ use Rattle.cd_sets.specs.declared.question.Question.{Question}
 use Rattle.cd_model.specs.Formula.{Graph, in_node}
 use Rattle.cd_model.specs.Interfaces.{value_in_node}
 use Rattle.cd_model.specs.Thing.{Thing, Pair, Xml, IsElement, IsValue}
-use Rattle.cd_matching.specs.Kernel as kernel
+use Rattle.cd_matching.specs.Kernel as kinds
 use Rattle.cd_matching.specs.Kernel.{Kernel, KernelNode}
 use Rattle.cd_matching.specs.PlainKernel.{plain_node, plain_nodes}
 use Rattle.cd_matching.specs.declared.kernel.KernelNode.{KernelNode as CodeNode}
@@ -100,17 +100,17 @@ module _ (graph : Graph) (kernel : Kernel NodeId) (first : ℕ) (question : Ques
   inhabited_or_none : (node : KernelNode NodeId) → HasProducts node → (steps : List Step)
       → AreNodeSteps graph kernel.nodes first question node steps
       → IsInhabited (in_node graph) IsElement question ⊎ (steps ≡ [])
-  inhabited_or_none (kernel.Pair p q) has steps are =
+  inhabited_or_none (kinds.Pair p q) has steps are =
       let products = are.elements in elim (by_pairs products.0 products.1) [
         | inl some ↦ inl some
         | inr none ↦ inr (products.2 ∙ ap (pair_steps p q) none)
       ]
-  inhabited_or_none (kernel.Gather variable p q) has steps are =
+  inhabited_or_none (kinds.Gather variable p q) has steps are =
       let products = are.elements in elim (by_pairs products.0 products.1) [
         | inl some ↦ inl some
         | inr none ↦ inr (products.2 ∙ ap (gather_steps variable p q) none)
       ]
-  inhabited_or_none (kernel.Xml tag attributes content) has steps are =
+  inhabited_or_none (kinds.Xml tag attributes content) has steps are =
       let triples = are.elements in elim (by_triples triples.0 triples.1) [
         | inl some ↦ inl some
         | inr none ↦ inr (triples.2 ∙ ap (triple_steps tag attributes content) none)

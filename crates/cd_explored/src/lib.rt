@@ -25,5 +25,5 @@ pub mod step;
 mod swapped;
 mod texts;
 mod union;
-mod want;
+pub mod want;
 mod wants;

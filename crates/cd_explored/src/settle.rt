@@ -90,8 +90,13 @@ fn steps_at<'k>(
     ensures grows { Grows world.old world.new }
 {
     let kernel = base.kernel;
-    let node = &kernel.nodes[place.number];
-    node_steps(base, world, place.number, &place.question, node)
+    node_steps(
+        base,
+        world,
+        place.number,
+        &place.question,
+        &kernel.nodes[place.number],
+    )
 }
 
 // Whether the steps of a node are those of products, of which there are some just where something

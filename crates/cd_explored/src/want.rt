@@ -1,6 +1,6 @@
 /// What a node is to hold.
 #[derive(Clone, Copy, PartialEq, Eq, Hash)]
-pub(crate) enum Want {
+pub enum Want {
     /// What comes to the place with this number.
     Comes(usize),
     /// What a variable captures at a place.

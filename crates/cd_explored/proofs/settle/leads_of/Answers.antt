@@ -45,10 +45,10 @@ returns-in-Inhabited-clause-steps c =
     let kernel = plain_kernel c.args.base.now.kernel.now in
     let place = plain_place c.args.place.now in
     let node = plain_node c.index.result.now in
-    IfOk-weaker c.steps_at.result _ _
+    IfOk-weaker c.steps_at-in-Inhabited.result _ _
     (λ leads are. settled_inhabited graph kernel c.args.base.now.first place
     (table_of c.decide.new.self) c.in_ok-decide.field-0 c.in_ok-decide.ensures.exact
     c.in-Inhabited.field-0 c.in-Inhabited.is node (there at) (all_steps leads.items)
     (subst (λ g. AreNodeSteps g kernel.nodes c.args.base.now.first place.question node
     (all_steps leads.items)) c.decide.ensures.graph (are node (there at))))
-    c.steps_at.ensures.steps
+    c.steps_at-in-Inhabited.ensures.steps

@@ -5,7 +5,7 @@ use Rattle.std.specs.List.{slice_get}
 use Rattle.cd_model.specs.AllOf.{AllOf}
 use Rattle.cd_model.proofs.ByNumber.{all_got}
 use Rattle.cd_matching.specs.Kernel.{IsSoundNode, leads_to, parts_of}
-use Rattle.cd_matching.specs.PlainKernel.{plain_kernel, plain_node, plain_nodes}
+use Rattle.cd_matching.specs.PlainKernel.{plain_node, plain_nodes}
 use Rattle.cd_empty.specs.Seen.{graph_of}
 use Rattle.cd_explored.specs.Inner.NodeSteps.{AreNodeSteps}
 use Rattle.cd_explored.specs.Inner.PlainSteps.{all_steps}
