@@ -15,4 +15,6 @@ pub mod AllWays
 pub mod UnboundVariables
 pub mod BoundVariables
 pub mod CapturedVariables
+mod RestsTake
+mod RestsHold
 mod SoundKernel

@@ -6,6 +6,7 @@ pub mod Ways
 pub mod Variables
 pub mod Take
 pub mod WrittenPattern
+pub mod Rests
 pub mod Naming
 pub mod PatternsAlike
 pub mod Takes

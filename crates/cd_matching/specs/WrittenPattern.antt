@@ -5,7 +5,7 @@ use Rattle.cd_syntax.specs.TypeTree as type
 use Rattle.cd_syntax.specs.TypeTree.{Tree, tree, Kind, Trees, NoTree, ATree, Signs, NoSign, ASign}
 use Rattle.cd_syntax.specs.TypeTree.{Fields, NoField, AField, Declarations, NoDeclaration}
 use Rattle.cd_syntax.specs.TypeTree.{ADeclaration, Regular, regular, RegularKind, Regulars}
-use Rattle.cd_syntax.specs.TypeTree.{NoRegular, ARegular}
+use Rattle.cd_syntax.specs.TypeTree.{NoRegular, ARegular, Rest, Closed, Open, Typed}
 use Rattle.cd_model.specs.Scope.{Scope}
 use Rattle.cd_model.specs.Written.{Written}
 use Rattle.cd_matching.specs.Pattern as pattern
@@ -22,7 +22,7 @@ abbrev mutual
   kind_has (type.Union trees) = trees_have trees
   kind_has (type.Meet first signs) = has_variable first || signs_have signs
   kind_has (type.Sequence is) = regular_has is
-  kind_has (type.Record fields more) = fields_have fields
+  kind_has (type.Record fields rest) = fields_have fields || rest_has rest
   kind_has (type.Xml tag attributes content) =
       has_variable tag || has_variable attributes || has_variable content
   kind_has (type.Where is declarations) = has_variable is || declarations_have declarations
@@ -41,6 +41,11 @@ abbrev mutual
   pub fields_have : Fields → Bool
   fields_have NoField = false
   fields_have (AField label at optional is rest) = has_variable is || fields_have rest
+
+  pub rest_has : Rest → Bool
+  rest_has Closed = false
+  rest_has Open = false
+  rest_has (Typed is) = has_variable is
 
   pub declarations_have : Declarations → Bool
   declarations_have NoDeclaration = false
@@ -70,6 +75,26 @@ outside (tree span kind) =
     tree span
     (type.Meet (tree span (type.Builtin builtin.Any)) (ASign false (tree span kind) NoSign))
 
+-- the fields of a record pattern, which may be absent or anything
+abbrev pub any_tree : Tree → Tree
+any_tree (tree span kind) = tree span (type.Builtin builtin.Any)
+
+abbrev pub free_fields : Fields → Fields
+free_fields NoField = NoField
+free_fields (AField label at optional is rest) = AField label at true (any_tree is) (free_fields rest)
+
+-- the records whose other fields are of this type
+abbrev pub others_in : Fields → Tree → Tree
+others_in fields (tree span kind) = tree span (type.Record (free_fields fields) (Typed (tree span kind)))
+
+-- a record pattern whose fields are patterns, where a rest is a type
+abbrev pub with_rest : Scope → Fields → Rest → pattern.Fields Written → Pattern Written
+with_rest scope fields Closed are = pattern.Record are false
+with_rest scope fields Open are = pattern.Record are true
+with_rest scope fields (Typed is) are =
+    pattern.Both (APattern (pattern.Record are true)
+    (APattern (pattern.OfType (in_scope scope (others_in fields is))) NoPattern))
+
 -- A tree without variables is a type. Where no name is at fault a variable stands under no other
 -- form than these
 abbrev mutual
@@ -86,8 +111,8 @@ abbrev mutual
   kind_pattern scope (type.Meet first signs) =
       pattern.Both (APattern (pattern_of scope first) (signed_patterns scope signs))
   kind_pattern scope (type.Sequence is) = pattern.Sequence (regular_pattern scope is)
-  kind_pattern scope (type.Record fields more) =
-      pattern.Record (field_patterns scope fields) more
+  kind_pattern scope (type.Record fields rest) =
+      with_rest scope fields rest (field_patterns scope fields)
   kind_pattern scope (type.Xml tag attributes content) =
       pattern.Xml (pattern_of scope tag) (pattern_of scope attributes) (pattern_of scope content)
   kind_pattern scope kind = pattern.First NoPattern

@@ -1,24 +1,27 @@
 //! Laws.
-ghost use Rattle.std.specs.Prelude.{◌≡◌, ◌<◌, ◌++◌, ℕ, Bool, true, false, List, length};
+ghost use Rattle.std.specs.Prelude.{◌≡◌, ◌↔◌, ◌<◌, ◌++◌, ℕ, Bool, true, false, List, length};
 ghost use Rattle.std.specs.Prelude.{Option, Some, None};
 ghost use Rattle.std.specs.List.{slice_get};
 ghost use Rattle.cd_sets.specs.declared.node_id.NodeId.{NodeId};
 ghost use Rattle.cd_syntax.specs.Name.{Name};
-ghost use Rattle.cd_syntax.specs.TypeTree.{Tree};
+ghost use Rattle.cd_syntax.specs.TypeTree.{Tree, Fields as TreeFields, Typed};
 ghost use Rattle.cd_model.specs.AllOf.{AllOf};
 ghost use Rattle.cd_model.specs.Formula.{Graph, IsGraph};
-ghost use Rattle.cd_model.specs.Interfaces.{Interfaces};
+ghost use Rattle.cd_model.specs.Interfaces.{Interfaces, value_in_written};
 ghost use Rattle.cd_model.specs.Scope.{Scope};
+ghost use Rattle.cd_model.specs.Thing as thing;
 ghost use Rattle.cd_model.specs.Thing.{Thing, IsElement, IsValue};
+ghost use Rattle.cd_model.specs.Written.{Written, in_written};
 ghost use Rattle.cd_matching.specs.Captures.{Captures};
 ghost use Rattle.cd_matching.specs.Kernel.{KernelNode, leads_to, parts_of, Ends, Binds};
 ghost use Rattle.cd_matching.specs.Kernel.{by_node, apart_of, taken};
 ghost use Rattle.cd_matching.specs.Naming.{IsNamed};
-ghost use Rattle.cd_matching.specs.Pattern.{Pattern};
+ghost use Rattle.cd_matching.specs.Pattern.{Pattern, Fields, Record};
+ghost use Rattle.cd_matching.specs.Rests.{OthersAre, SameCaptures};
 ghost use Rattle.cd_matching.specs.Take.{take};
 ghost use Rattle.cd_matching.specs.Takes.{ElementTakes, ValueTakes, PatternStandsFor, IsResolved};
 ghost use Rattle.cd_matching.specs.Variables.{binds};
-ghost use Rattle.cd_matching.specs.WrittenPattern.{pattern_of};
+ghost use Rattle.cd_matching.specs.WrittenPattern.{pattern_of, in_scope, others_in, with_rest};
 
 /// A pattern takes each element in one way, or fails, and each value in one way at most.
 pub fn patterns_answer_once()
@@ -69,6 +72,32 @@ pub fn variables_have()
         (v : Thing) (captures : Captures Name) (name : Name)
         → ValueTakes graph interfaces p v (Some captures) → binds p name ≡ false
         → captures name ≡ None }
+{}
+
+/// A record pattern with a typed rest takes the records of the type beside its fields that the open
+/// pattern takes, with the same captures, and nothing else.
+pub fn rests_take()
+    ensures takes { (test : Written → Thing → Bool) (scope : Scope) (fields : TreeFields)
+        (is : Tree) (are : Fields Written) (all : thing.Fields)
+        → test (in_scope scope (others_in fields is)) (thing.Record all) ≡ true
+        → SameCaptures (take Written test (with_rest scope fields (Typed is) are) (thing.Record all))
+        (take Written test (Record are true) (thing.Record all)) }
+    ensures fails { (test : Written → Thing → Bool) (scope : Scope) (fields : TreeFields)
+        (is : Tree) (are : Fields Written) (d : Thing)
+        → test (in_scope scope (others_in fields is)) d ≡ false
+        → take Written test (with_rest scope fields (Typed is) are) d ≡ None }
+{}
+
+/// A record is in that type just where at each label that the fields don't name it has nothing, or
+/// something in the type of the rest.
+pub fn rests_hold()
+    ensures elements { (scope : Scope) (fields : TreeFields) (is : Tree) (all : thing.Fields)
+        → in_written (thing.Record all) (in_scope scope (others_in fields is)) true
+        ↔ OthersAre (λ d. in_written d (in_scope scope is) true) fields all }
+    ensures values { (interfaces : Interfaces) (scope : Scope) (fields : TreeFields) (is : Tree)
+        (all : thing.Fields)
+        → value_in_written interfaces (thing.Record all) (in_scope scope (others_in fields is)) true
+        ↔ OthersAre (λ d. value_in_written interfaces d (in_scope scope is) true) fields all }
 {}
 
 /// Each node of a kernel takes by one rule.

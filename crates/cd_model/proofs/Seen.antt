@@ -8,9 +8,9 @@ use Rattle.cd_syntax.specs.TypeTree.{Tree, Kind, Trees, NoTree, ATree}
 use Rattle.cd_model.specs.Alike as heads
 use Rattle.cd_model.specs.Alike.{FieldsStand, HeadsIfAny, HeadsStand, RegularsStand, RowsStand}
 use Rattle.cd_model.specs.AllOf.{AllOf}
-use Rattle.cd_model.specs.Scope.{Scope, Declared, names_in, names_in_fields, names_in_regular, names_in_regular_kind, names_in_regulars, names_over}
+use Rattle.cd_model.specs.Scope.{Scope, Declared, names_in, names_in_fields, names_in_rest, names_in_regular, names_in_regular_kind, names_in_regulars, names_over}
 use Rattle.cd_model.specs.Types.{FieldOf, field_of}
-use Rattle.cd_model.specs.Written.{WrittenType, alone, within, type_named, any_or_none, tuple_rest, arrows_rest, tuple_head, arrows_head, text_head, named_in, regular_in, regular_kind_in, regulars_in, head_of}
+use Rattle.cd_model.specs.Written.{WrittenType, alone, within, type_named, rest_in, tuple_rest, arrows_rest, tuple_head, arrows_head, text_head, named_in, regular_in, regular_kind_in, regulars_in, head_of}
 use Rattle.cd_model.proofs.Covered.{Covered, each_parts, covered_tree}
 use Rattle.cd_model.proofs.CoveredParts.{covered_first, covered_tuple, covered_argument, covered_arrows, covered_xml}
 
@@ -24,6 +24,12 @@ module _ (Fact : Declared → Type 0) where
 
   pub seen_named : (name : BuiltinName) → IsSeen Fact (type_named name) (type_named name)
   seen_named name = seen (type_named name) (record { within = tt; over = tt })
+
+  seen_rest : (scope : Scope) (rest : type.Rest) → AllOf Fact (names_in_rest scope rest)
+      → AllOf Fact (names_over scope) → IsSeen Fact (rest_in scope rest) (rest_in scope rest)
+  seen_rest scope type.Closed each over = seen_named _
+  seen_rest scope type.Open each over = seen_named _
+  seen_rest scope (type.Typed is) each over = seen (within scope is) (covered_tree Fact scope is each over)
 
   seen_field : (scope : Scope) (fields : type.Fields) (rest : WrittenType) (label : Name) → AllOf Fact (names_in_fields scope fields)
       → AllOf Fact (names_over scope) → IsSeen Fact rest rest
@@ -94,8 +100,10 @@ module _ (Fact : Declared → Type 0) where
   seen_head scope (type.Tuple trees) covered = seen_tuple scope trees covered
   seen_head scope (type.Arrows trees) covered = seen_arrows scope trees covered
   seen_head scope (type.Sequence is) covered = heads.both _ _ (heads.sequences _ _ (seen_regular scope is covered.within covered.over))
-  seen_head scope (type.Record fields more) covered = heads.both _ _ (heads.records _ _ _ _
-      (λ label. seen_field scope fields (type_named (any_or_none more)) label covered.within covered.over (seen_named (any_or_none more))))
+  seen_head scope (type.Record fields rest) covered =
+      let parts = each_parts Fact (names_in_fields scope fields) (names_in_rest scope rest) covered.within in
+      heads.both _ _ (heads.records _ _ _ _
+      (λ label. seen_field scope fields (rest_in scope rest) label parts.0 covered.over (seen_rest scope rest parts.1 covered.over)))
   seen_head scope (type.Xml tag attributes content) covered =
       let parts = covered_xml Fact scope tag attributes content covered in heads.both _ _ (heads.xmls _ _ _ _ _ _
       (seen (within scope tag) parts.tag_is) (seen (within scope attributes) parts.attributes_are)

@@ -76,10 +76,11 @@ named_in scope type.NoField = []
 named_in scope (type.AField name at optional is rest) =
     (name, record { optional = optional; type = within scope is }) ∷ named_in scope rest
 
--- a label that is not named is of any type where other fields may stand, and of none where not
-abbrev pub any_or_none : Bool → BuiltinName
-any_or_none true = builtin.Any
-any_or_none false = builtin.Empty
+-- the type of what stands at a label that is not named
+abbrev pub rest_in : Scope → type.Rest → WrittenType
+rest_in scope type.Closed = type_named builtin.Empty
+rest_in scope type.Open = type_named builtin.Any
+rest_in scope (type.Typed is) = within scope is
 
 -- a capture is a form of patterns, which stands in no type
 abbrev mutual
@@ -110,8 +111,8 @@ head_of scope (type.Text text) = Some (text_head text)
 head_of scope (type.Tuple trees) = tuple_head scope trees
 head_of scope (type.Arrows trees) = arrows_head scope trees
 head_of scope (type.Sequence is) = Some (Sequences (regular_in scope is))
-head_of scope (type.Record fields more) =
-    Some (Records (named_in scope fields) (type_named (any_or_none more)))
+head_of scope (type.Record fields rest) =
+    Some (Records (named_in scope fields) (rest_in scope rest))
 head_of scope (type.Xml tag attributes content) =
     Some (Xmls (within scope tag) (within scope attributes) (within scope content))
 head_of scope kind = None

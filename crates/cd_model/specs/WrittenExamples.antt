@@ -8,7 +8,7 @@ use Rattle.cd_syntax.specs.Name.{Name}
 use Rattle.cd_syntax.specs.TypeTree.{Tree, tree, Kind, Builtin, Ints, Chars, Text, Tuple, Arrows}
 use Rattle.cd_syntax.specs.TypeTree.{Union, Meet, Sequence, Record, Named, Where, Regular, regular}
 use Rattle.cd_syntax.specs.TypeTree.{RegularKind, Nothing, Item, Seq, Alt, Repeat, trees_of}
-use Rattle.cd_syntax.specs.TypeTree.{regulars_of, NoSign, ASign, NoField, AField, Declarations}
+use Rattle.cd_syntax.specs.TypeTree.{regulars_of, NoSign, ASign, NoField, AField, Declarations, Closed, Open}
 use Rattle.cd_syntax.specs.TypeTree.{NoDeclaration, ADeclaration}
 use Rattle.cd_model.specs.Scope.{Scope, Declared}
 use Rattle.cd_model.specs.Written.{Written}
@@ -81,13 +81,13 @@ abbrev pub curried : Written
 curried = alone (Arrows (trees_of (number 0 ∷ number 1 ∷ number 2 ∷ [])))
 
 abbrev pub closed : Written
-closed = alone (Record (AField (codes "a") 0 false int NoField) false)
+closed = alone (Record (AField (codes "a") 0 false int NoField) Closed)
 
 abbrev pub opened : Written
-opened = alone (Record (AField (codes "a") 0 false int NoField) true)
+opened = alone (Record (AField (codes "a") 0 false int NoField) Open)
 
 abbrev pub optional : Written
-optional = alone (Record (AField (codes "a") 0 true int NoField) false)
+optional = alone (Record (AField (codes "a") 0 true int NoField) Closed)
 
 -- `*--5`, `5--0`, `Int \ 0 & 1--2`, `X where X = X`, `Any \ X where X = X`, and `L where L = "" |
 -- (Int, L)`

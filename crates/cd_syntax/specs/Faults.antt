@@ -9,7 +9,7 @@ use Rattle.cd_syntax.specs.declared.tokens.LexError.TheVariants.{BadChar, OpenTe
 use Rattle.cd_syntax.specs.declared.tokens.LexError.TheVariants.{TooWide}
 use Rattle.cd_syntax.specs.Integer.{IsInteger}
 use Rattle.cd_syntax.specs.Name.{begins_word, IsLabel}
-use Rattle.cd_syntax.specs.Digits.{AreDigits, decimal_value, BeginsWithNoDigit}
+use Rattle.cd_syntax.specs.Numerals.{IsNumeral, begins_number}
 use Rattle.cd_syntax.specs.Signs.{BeginsWith}
 use Rattle.cd_syntax.specs.Quotes.{Quotes, BeginsNoEscape, EndsHalf}
 use Rattle.cd_syntax.specs.Comments.{IsComment}
@@ -19,14 +19,14 @@ use Rattle.cd_syntax.specs.Tokens.{is_blank, EndsWord, bytes, IsDropped, IsLexem
 abbrev pub is_quote : ℕ → Bool
 is_quote c = (c == 34) || (c == 39)
 
--- no blank, word, number without a sign or quoted text begins with this character
+-- no blank, word, decimal number without a sign or quoted text begins with this character
 abbrev pub is_other : ℕ → Bool
 is_other c = not (is_blank c || begins_word c || is_ascii_digit c || is_quote c)
 
 -- the text, which begins at this byte, has a fault at its start
 pub data HasFaultHere (joined : Bool) (at : ℕ) : List ℕ → LexError → Type 0 where
-  -- a character that begins no token
-  character : (c : ℕ) (text : List ℕ) → is_other c ≡ true
+  -- a character that begins no token; a `#` may begin a number
+  character : (c : ℕ) (text : List ℕ) → is_other c ≡ true → begins_number (c ∷ text) ≡ false
       → ((is : Sign) → BeginsWith (c ∷ text) is → ⊥)
       → ((name rest : List ℕ) → c ∷ text ≡ 96 ∷ name ++ rest → IsLabel name → EndsWord rest → ⊥)
       → HasFaultHere joined at (c ∷ text) (BadChar at)
@@ -41,12 +41,11 @@ pub data HasFaultHere (joined : Bool) (at : ℕ) : List ℕ → LexError → Typ
   open_comment : (text : List ℕ)
       → ((written rest : List ℕ) → 40 ∷ 42 ∷ text ≡ written ++ rest → IsComment written → ⊥)
       → HasFaultHere joined at (40 ∷ 42 ∷ text) (OpenComment at)
-  number : (digits text : List ℕ) → AreDigits digits → BeginsWithNoDigit text
-      → (IsInteger (pos (decimal_value digits)) → ⊥)
-      → HasFaultHere joined at (digits ++ text) (TooWide at)
-  negative : (digits text : List ℕ) → joined ≡ false → AreDigits digits → BeginsWithNoDigit text
-      → (IsInteger (neg_ℤ (pos (decimal_value digits))) → ⊥)
-      → HasFaultHere joined at (45 ∷ digits ++ text) (TooWide at)
+  number : (written text : List ℕ) (n : ℕ) → IsNumeral written text n → (IsInteger (pos n) → ⊥)
+      → HasFaultHere joined at (written ++ text) (TooWide at)
+  negative : (written text : List ℕ) (n : ℕ) → joined ≡ false → IsNumeral written text n
+      → (IsInteger (neg_ℤ (pos n)) → ⊥)
+      → HasFaultHere joined at (45 ∷ written ++ text) (TooWide at)
 
 -- this is the first fault of the text, which begins at this byte: tokens and what is dropped stand
 -- before it

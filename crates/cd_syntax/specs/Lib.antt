@@ -8,6 +8,7 @@ pub mod Comments
 pub mod Tokens
 pub mod Faults
 pub mod Digits
+pub mod Numerals
 pub mod TypeTree
 pub mod PlainTree
 pub mod WellMade

@@ -1,7 +1,6 @@
 -- The tokens of a text, a list of characters, in the whole language.
-use Rattle.std.specs.Prelude.{◌≡◌, ℕ, pos, ◌+◌, ◌==◌, ◌||◌, ◌&&◌, neg_ℤ, Bool, true, false, List}
+use Rattle.std.specs.Prelude.{◌≡◌, ℕ, pos, ◌+◌, ◌==◌, ◌||◌, neg_ℤ, Bool, true, false, List}
 use Rattle.std.specs.Prelude.{[], ◌∷◌, ◌++◌, length, IsTrue, encode_utf8_all}
-use Rattle.std.specs.Char.{is_ascii_digit}
 use Rattle.cd_syntax.specs.declared.sign.Sign.{Sign as ASign}
 use Rattle.cd_syntax.specs.declared.tokens.Span.{Span}
 use Rattle.cd_syntax.specs.declared.tokens.Token.{Token}
@@ -10,7 +9,7 @@ use Rattle.cd_syntax.specs.declared.tokens.TokenKind.TheVariants.{Word, Int, Cha
 use Rattle.cd_syntax.specs.declared.tokens.TokenKind.TheVariants.{Sign}
 use Rattle.cd_syntax.specs.Integer.{IsInteger}
 use Rattle.cd_syntax.specs.Name.{goes_on_word, is_word, IsLabel}
-use Rattle.cd_syntax.specs.Digits.{AreDigits, decimal_value, BeginsWithNoDigit}
+use Rattle.cd_syntax.specs.Numerals.{IsNumeral, begins_negative}
 use Rattle.cd_syntax.specs.Signs.{characters, IsLongest, closes}
 use Rattle.cd_syntax.specs.Quotes.{Quotes}
 use Rattle.cd_syntax.specs.Comments.{begins_pair, IsComment}
@@ -24,11 +23,6 @@ abbrev pub EndsWord : List ℕ → Type 0
 EndsWord [] = Unit {0}
 EndsWord (c ∷ cs) = goes_on_word c ≡ false
 
--- a `-` stands first and a digit after it
-abbrev pub begins_negative : List ℕ → Bool
-begins_negative (c ∷ d ∷ rest) = (c == 45) && is_ascii_digit d
-begins_negative text = false
-
 -- what is written is dropped: a blank or a comment
 pub data IsDropped : List ℕ → Type 0 where
   blank : (c : ℕ) → IsTrue (is_blank c) → IsDropped (c ∷ [])
@@ -39,13 +33,12 @@ pub data IsDropped : List ℕ → Type 0 where
 pub data IsLexemeOf (joined : Bool) : (written text : List ℕ) → TokenKind → Type 0 where
   word : (name text : List ℕ) → IsTrue (is_word name) → EndsWord text
       → IsLexemeOf joined name text (Word name)
-  -- a number is all the digits that there are, and fits 128 bits
-  number : (digits text : List ℕ) → AreDigits digits → BeginsWithNoDigit text
-      → IsInteger (pos (decimal_value digits))
-      → IsLexemeOf joined digits text (Int (pos (decimal_value digits)))
-  negative : (digits text : List ℕ) → joined ≡ false → AreDigits digits → BeginsWithNoDigit text
-      → IsInteger (neg_ℤ (pos (decimal_value digits)))
-      → IsLexemeOf joined (45 ∷ digits) text (Int (neg_ℤ (pos (decimal_value digits))))
+  -- a number fits 128 bits
+  number : (written text : List ℕ) (n : ℕ) → IsNumeral written text n → IsInteger (pos n)
+      → IsLexemeOf joined written text (Int (pos n))
+  negative : (written text : List ℕ) (n : ℕ) → joined ≡ false → IsNumeral written text n
+      → IsInteger (neg_ℤ (pos n))
+      → IsLexemeOf joined (45 ∷ written) text (Int (neg_ℤ (pos n)))
   chars : (written characters text : List ℕ) → Quotes 39 written characters
       → IsLexemeOf joined (39 ∷ written ++ 39 ∷ []) text (Chars characters)
   text : (written characters text : List ℕ) → Quotes 34 written characters

@@ -23,8 +23,7 @@ mutual
     Union : Trees → Kind
     Meet : Tree → Signs → Kind
     Sequence : Regular → Kind
-    -- with true, other fields may stand beside these
-    Record : Fields → (more : Bool) → Kind
+    Record : Fields → Rest → Kind
     Xml : (tag attributes content : Tree) → Kind
     Named : Name → Kind
     Where : Tree → Declarations → Kind
@@ -43,6 +42,12 @@ mutual
   pub data Fields : Type 0 where
     NoField : Fields
     AField : (label : Name) (at : ℕ) (optional : Bool) → Tree → Fields → Fields
+
+  -- what stands after the fields: nothing, `..`, or `_=?` and a tree
+  pub data Rest : Type 0 where
+    Closed : Rest
+    Open : Rest
+    Typed : Tree → Rest
 
   pub data Declarations : Type 0 where
     NoDeclaration : Declarations

@@ -6,7 +6,7 @@ use Rattle.cd_syntax.specs.TypeTree.{Record, Xml, Where, Variable, Default, Tree
 use Rattle.cd_syntax.specs.TypeTree.{Signs, NoSign, ASign, Fields, NoField, AField, Declarations}
 use Rattle.cd_syntax.specs.TypeTree.{NoDeclaration, ADeclaration, Regular, regular, RegularKind}
 use Rattle.cd_syntax.specs.TypeTree.{Nothing, Item, Seq, Alt, Repeat, Capture, Regulars, NoRegular}
-use Rattle.cd_syntax.specs.TypeTree.{ARegular}
+use Rattle.cd_syntax.specs.TypeTree.{ARegular, Rest, Closed, Open, Typed}
 
 abbrev pub HaveTwoTrees : Trees → Type 0
 HaveTwoTrees (ATree first (ATree second rest)) = Unit {0}
@@ -23,7 +23,7 @@ abbrev mutual
   IsWellMadeKind (Union trees) = AreWellMade trees
   IsWellMadeKind (Meet first signs) = IsWellMade first × AreWellMadeSigns signs
   IsWellMadeKind (Sequence is) = IsWellMadeRegular is
-  IsWellMadeKind (Record fields more) = AreWellMadeFields fields
+  IsWellMadeKind (Record fields rest) = AreWellMadeFields fields × IsWellMadeRest rest
   IsWellMadeKind (Xml tag attributes content) = IsWellMade tag × IsWellMade attributes
       × IsWellMade content
   IsWellMadeKind (Where is declarations) = IsWellMade is × AreWellMadeDeclarations declarations
@@ -43,6 +43,11 @@ abbrev mutual
   AreWellMadeFields NoField = Unit {0}
   AreWellMadeFields (AField label at optional is rest) = IsLabel label × IsWellMade is
       × AreWellMadeFields rest
+
+  pub IsWellMadeRest : Rest → Type 0
+  IsWellMadeRest Closed = Unit {0}
+  IsWellMadeRest Open = Unit {0}
+  IsWellMadeRest (Typed is) = IsWellMade is
 
   pub AreWellMadeDeclarations : Declarations → Type 0
   AreWellMadeDeclarations NoDeclaration = Unit {0}

@@ -8,7 +8,7 @@ use Rattle.cd_syntax.specs.TypeTree.{Record, Xml, Where, Variable, Default, Tree
 use Rattle.cd_syntax.specs.TypeTree.{Signs, NoSign, ASign, Fields, NoField, AField, Declarations}
 use Rattle.cd_syntax.specs.TypeTree.{NoDeclaration, ADeclaration, Regular, regular, RegularKind}
 use Rattle.cd_syntax.specs.TypeTree.{Nothing, Item, Seq, Alt, Repeat, Capture, Regulars, NoRegular}
-use Rattle.cd_syntax.specs.TypeTree.{ARegular}
+use Rattle.cd_syntax.specs.TypeTree.{ARegular, Rest, Closed, Open, Typed}
 use Rattle.cd_syntax.specs.WellMade.{HaveTwoTrees}
 
 abbrev pub IsWellMadeConstant : Constant → Type 0
@@ -27,7 +27,7 @@ abbrev mutual
   IsWellMadePatternKind (Meet first signs) = IsWellMadePattern first
       × AreWellMadePatternSigns signs
   IsWellMadePatternKind (Sequence is) = IsWellMadePatternRegular is
-  IsWellMadePatternKind (Record fields more) = AreWellMadePatternFields fields
+  IsWellMadePatternKind (Record fields rest) = AreWellMadePatternFields fields × IsWellMadePatternRest rest
   IsWellMadePatternKind (Xml tag attributes content) = IsWellMadePattern tag
       × IsWellMadePattern attributes × IsWellMadePattern content
   IsWellMadePatternKind (Where is declarations) = IsWellMadePattern is
@@ -50,6 +50,11 @@ abbrev mutual
   AreWellMadePatternFields NoField = Unit {0}
   AreWellMadePatternFields (AField label at optional is rest) = IsLabel label
       × IsWellMadePattern is × AreWellMadePatternFields rest
+
+  pub IsWellMadePatternRest : Rest → Type 0
+  IsWellMadePatternRest Closed = Unit {0}
+  IsWellMadePatternRest Open = Unit {0}
+  IsWellMadePatternRest (Typed is) = IsWellMadePattern is
 
   pub AreWellMadePatternDeclarations : Declarations → Type 0
   AreWellMadePatternDeclarations NoDeclaration = Unit {0}

@@ -7,13 +7,15 @@ ghost use Rattle.cd_syntax.specs.TypeTree.{Item, Seq, Alt, Repeat, trees_of, sig
 ghost use Rattle.cd_syntax.specs.TypeTree.{declarations_of, regulars_of};
 ghost use Rattle.cd_syntax.specs.PlainTree.{plain, plain_kind, plain_signed, plain_field};
 ghost use Rattle.cd_syntax.specs.PlainTree.{plain_declaration, plain_regular, plain_regular_kind};
+ghost use Rattle.cd_syntax.specs.PlainTree.{plain_rest};
+ghost use Rattle.cd_syntax.specs.TypeTree.{Closed, Open, Typed};
 
 use crate::builtin::BuiltinName;
 use crate::name::Name;
 use crate::tokens::Span;
 use crate::type_tree::{
-    Declaration, Declarations, FieldTree, FieldTrees, Post, RegKind, RegTree, RegTrees, Signed,
-    SignedTree, Tree, TreeKind, Trees,
+    Declaration, Declarations, FieldTree, FieldTrees, Post, RegKind, RegTree, RegTrees, Rest,
+    Signed, SignedTree, Tree, TreeKind, Trees,
 };
 
 impl Tree {
@@ -105,11 +107,12 @@ impl TreeKind {
         TreeKind::Xml(tag, attributes, content)
     }
 
-    /// The records with these fields, and with true also those that have other fields beside them.
-    pub fn record(fields: Vec<FieldTree>, more: bool) -> TreeKind
-        ensures { plain_kind result ≡ Record (fields_of (map plain_field fields.items)) more }
+    /// The records with these fields, and with what the rest allows beside them.
+    pub fn record(fields: Vec<FieldTree>, rest: Rest) -> TreeKind
+        ensures { plain_kind result
+            ≡ Record (fields_of (map plain_field fields.items)) (plain_rest rest) }
     {
-        TreeKind::Record(FieldTrees::of(fields), more)
+        TreeKind::Record(FieldTrees::of(fields), rest)
     }
 
     /// What the declaration of this name says.
@@ -135,6 +138,29 @@ impl SignedTree {
         ensures { plain_signed result ≡ record { kept = kept; tree = plain tree } }
     {
         SignedTree { kept, tree }
+    }
+}
+
+impl Rest {
+    /// No other fields.
+    pub fn closed() -> Rest
+        ensures { plain_rest result ≡ Closed }
+    {
+        Rest::Closed
+    }
+
+    /// Any other fields.
+    pub fn open() -> Rest
+        ensures { plain_rest result ≡ Open }
+    {
+        Rest::Open
+    }
+
+    /// Other fields of this type.
+    pub fn typed(tree: Box<Tree>) -> Rest
+        ensures { plain_rest result ≡ Typed (plain tree.value) }
+    {
+        Rest::Typed(tree)
     }
 }
 

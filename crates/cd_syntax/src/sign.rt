@@ -35,6 +35,8 @@ pub enum Sign {
     OrOr,
     /// `;;`, after a declaration.
     Semicolons,
+    /// `/@`, before the label of an attribute.
+    SlashAt,
     /// `(`.
     OpenParenthesis,
     /// `)`.
@@ -73,6 +75,8 @@ pub enum Sign {
     Semicolon,
     /// `.`, before the label of a field.
     Dot,
+    /// `/`, before the tag of a child.
+    Slash,
     /// `!`, before a sequence whose items are put in its place.
     Splice,
     /// `@`, between two sequences.

@@ -47,8 +47,8 @@ pub enum TreeKind {
     Meet(Box<Tree>, Signed),
     /// The sequences whose items fit.
     Sequence(Box<RegTree>),
-    /// The records with these fields, and with true also those that have other fields beside them.
-    Record(FieldTrees, bool),
+    /// The records with these fields, and with what the rest allows beside them.
+    Record(FieldTrees, Rest),
     /// The XML elements of a tag, attributes and a content.
     Xml(Box<Tree>, Box<Tree>, Box<Tree>),
     /// What the declaration of this name says.
@@ -104,6 +104,18 @@ pub struct FieldTree {
     pub optional: bool,
     /// What it holds.
     pub tree: Tree,
+}
+
+/// What stands after the fields of a record type.
+#[cycle(type_tree)]
+#[derive(Drop)]
+pub enum Rest {
+    /// Nothing: no other fields.
+    Closed,
+    /// `..`: any other fields.
+    Open,
+    /// `_=?` and a type: other fields of this type.
+    Typed(Box<Tree>),
 }
 
 /// A list of declarations.
