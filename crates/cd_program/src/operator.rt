@@ -42,6 +42,10 @@ pub enum BuiltIn {
     IntOf,
     /// `string_of`: the text of an integer.
     StringOf,
+    /// `min_of`: the least integer of a sequence.
+    MinOf,
+    /// `max_of`: the greatest integer of a sequence.
+    MaxOf,
     /// `raise`.
     Raise,
 }

@@ -9,6 +9,8 @@ pub enum Keyword {
     Else,
     /// `flatten`
     Flatten,
+    /// `from`
+    From,
     /// `fun`
     Fun,
     /// `if`
@@ -23,12 +25,18 @@ pub enum Keyword {
     Map,
     /// `match`
     Match,
+    /// `max_of`
+    MaxOf,
+    /// `min_of`
+    MinOf,
     /// `mod`
     Mod,
     /// `not`
     Not,
     /// `raise`
     Raise,
+    /// `select`
+    Select,
     /// `string_of`
     StringOf,
     /// `then`

@@ -33,11 +33,12 @@ macro_rules! row {
     };
 }
 
-static KEYWORDS: [TableRow<Keyword>; 21] = [
+static KEYWORDS: [TableRow<Keyword>; 25] = [
     row!(b"and", Keyword::And),
     row!(b"div", Keyword::Div),
     row!(b"else", Keyword::Else),
     row!(b"flatten", Keyword::Flatten),
+    row!(b"from", Keyword::From),
     row!(b"fun", Keyword::Fun),
     row!(b"if", Keyword::If),
     row!(b"in", Keyword::In),
@@ -45,9 +46,12 @@ static KEYWORDS: [TableRow<Keyword>; 21] = [
     row!(b"let", Keyword::Let),
     row!(b"map", Keyword::Map),
     row!(b"match", Keyword::Match),
+    row!(b"max_of", Keyword::MaxOf),
+    row!(b"min_of", Keyword::MinOf),
     row!(b"mod", Keyword::Mod),
     row!(b"not", Keyword::Not),
     row!(b"raise", Keyword::Raise),
+    row!(b"select", Keyword::Select),
     row!(b"string_of", Keyword::StringOf),
     row!(b"then", Keyword::Then),
     row!(b"transform", Keyword::Transform),
@@ -91,9 +95,11 @@ static OPERATORS: [TableRow<Op>; 14] = [
     row!(b"||", Op::Or),
 ];
 
-static BUILT_INS: [TableRow<BuiltIn>; 5] = [
+static BUILT_INS: [TableRow<BuiltIn>; 7] = [
     row!(b"flatten", BuiltIn::Flatten),
     row!(b"int_of", BuiltIn::IntOf),
+    row!(b"max_of", BuiltIn::MaxOf),
+    row!(b"min_of", BuiltIn::MinOf),
     row!(b"not", BuiltIn::Not),
     row!(b"raise", BuiltIn::Raise),
     row!(b"string_of", BuiltIn::StringOf),
@@ -127,7 +133,7 @@ pub fn built_in(spelling: &str) -> Option<BuiltIn>
     Table::new(built_ins()).find(spelling)
 }
 
-fn keywords() -> &'static [TableRow<Keyword>; 21]
+fn keywords() -> &'static [TableRow<Keyword>; 25]
     ensures rows { rows_of result.now ≡ all_keywords }
     ensures rising { IsTrue (rises (fields_of result.now)) }
 {
@@ -148,7 +154,7 @@ fn operators() -> &'static [TableRow<Op>; 14]
     &OPERATORS
 }
 
-fn built_ins() -> &'static [TableRow<BuiltIn>; 5]
+fn built_ins() -> &'static [TableRow<BuiltIn>; 7]
     ensures rows { rows_of result.now ≡ all_built_ins }
     ensures rising { IsTrue (rises (fields_of result.now)) }
 {

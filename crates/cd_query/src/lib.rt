@@ -1,0 +1,2 @@
+//! What selects and paths stand for, as definitions alone.
+#![tactic(auto)]
