@@ -63,6 +63,7 @@ seen_sign sign.GreaterEqual span = (is.NoTerminal, other (at (token.Sign sign.Gr
 seen_sign sign.AndAnd span = (is.NoTerminal, other (at (token.Sign sign.AndAnd) span), refl)
 seen_sign sign.OrOr span = (is.NoTerminal, other (at (token.Sign sign.OrOr) span), refl)
 seen_sign sign.Semicolons span = (is.NoTerminal, other (at (token.Sign sign.Semicolons) span), refl)
+seen_sign sign.SlashAt span = (is.NoTerminal, other (at (token.Sign sign.SlashAt) span), refl)
 seen_sign sign.OpenParenthesis span = (is.OpenTuple, open_tuple span, refl)
 seen_sign sign.CloseParenthesis span = (is.CloseTuple, close_tuple span, refl)
 seen_sign sign.OpenBracket span = (is.OpenSequence, open_sequence span, refl)
@@ -82,6 +83,7 @@ seen_sign sign.And span = (is.NoTerminal, other (at (token.Sign sign.And) span),
 seen_sign sign.Comma span = (is.Comma, comma span, refl)
 seen_sign sign.Semicolon span = (is.Semicolon, semicolon span, refl)
 seen_sign sign.Dot span = (is.NoTerminal, other (at (token.Sign sign.Dot) span), refl)
+seen_sign sign.Slash span = (is.NoTerminal, other (at (token.Sign sign.Slash) span), refl)
 seen_sign sign.Splice span = (is.NoTerminal, other (at (token.Sign sign.Splice) span), refl)
 seen_sign sign.At span = (is.NoTerminal, other (at (token.Sign sign.At) span), refl)
 

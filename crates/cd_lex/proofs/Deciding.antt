@@ -1,6 +1,6 @@
 -- Each text lexes or has a first fault.
 use Rattle.std.proofs.Common.{◌≡◌, ℕ, ℤ, pos, neg_ℤ, zero, suc, ◌+◌, ◌-◌, ◌≤◌, Bool, true, false, true≢false, List, [], ◌∷◌, Option, Some, None, refl, sym, ap, subst, ◌∙◌, inl, inr, ◌⊎◌, arith, length}
-use Rattle.std.specs.Prelude.{◌==◌, int_le}
+use Rattle.std.specs.Prelude.{◌==◌, ◌||◌, int_le}
 use Rattle.std.specs.Char.{is_ascii_digit}
 use Rattle.std.proofs.lemmas.Bool.{cases_Bool, cases_eq, and_parts, eqb-true}
 use Rattle.std.proofs.lemmas.Int.{ints}
@@ -13,14 +13,15 @@ use Rattle.cd_syntax.specs.declared.tokens.LexError.{LexError}
 use Rattle.cd_syntax.specs.declared.tokens.LexError.TheVariants.{BadChar, OpenText, OpenComment, TooWide}
 use Rattle.cd_syntax.specs.Integer.{LEAST, GREATEST, IsInteger}
 use Rattle.cd_syntax.specs.Name.{begins_word}
-use Rattle.cd_syntax.specs.Digits.{decimal_value}
+use Rattle.cd_syntax.specs.Numerals.{begins_number, begins_negative}
 use Rattle.cd_syntax.specs.Signs.{characters}
 use Rattle.cd_syntax.specs.Comments.{begins_pair}
-use Rattle.cd_syntax.specs.Tokens.{is_blank, begins_negative, bytes, joins, token_at, Lexes}
+use Rattle.cd_syntax.specs.Tokens.{is_blank, bytes, joins, token_at, Lexes}
 use Rattle.cd_syntax.specs.Tokens as tokens
 use Rattle.cd_syntax.specs.Faults.{is_other, HasFaultHere, HasFirstFault}
 use Rattle.cd_syntax.specs.Faults as faults
-use Rattle.cd_lex.specs.Inner.Prefixes.{first_word, after_word, first_digits, after_digits}
+use Rattle.cd_lex.specs.Inner.Prefixes.{first_word, after_word}
+use Rattle.cd_lex.specs.Inner.Numerals.{number_at, after_number}
 use Rattle.cd_lex.specs.Inner.Standing.{IsDroppedTo, IsTokenTo}
 use Rattle.cd_lex.specs.Inner.Quoted.{IsBroken}
 use Rattle.cd_lex.specs.Inner.Commenting.{within, left_from}
@@ -67,13 +68,12 @@ pair_is a b (c ∷ d ∷ rest) is =
     let two : d ≡ b = eqb-true d b parts.1 in
     (rest, ap (λ c. c ∷ d ∷ rest) one ∙ ap (λ d. a ∷ d ∷ rest) two)
 
--- a text that begins with a `-` and a digit
-negative_is : (text : List ℕ) → begins_negative text ≡ true → (d : ℕ) × (rest : List ℕ) × (text ≡ 45 ∷ d ∷ rest) × (is_ascii_digit d ≡ true)
+-- a text that begins with a `-` and a number
+negative_is : (text : List ℕ) → begins_negative text ≡ true → (rest : List ℕ) × (text ≡ 45 ∷ rest) × (begins_number rest ≡ true)
 negative_is [] is = absurd (true≢false (sym is))
-negative_is (c ∷ []) is = absurd (true≢false (sym is))
-negative_is (c ∷ d ∷ rest) is =
-    let parts = and_parts (c == 45) (is_ascii_digit d) is in
-    (d, rest, ap (λ c. c ∷ d ∷ rest) (eqb-true c 45 parts.0), parts.1)
+negative_is (c ∷ rest) is =
+    let parts = and_parts (c == 45) (begins_number rest) is in
+    (rest, ap (λ c. c ∷ rest) (eqb-true c 45 parts.0), parts.1)
 
 module _ (joined : Bool) (at : ℕ) where
   comment_decided : (inside : List ℕ) → Prefix joined at (40 ∷ 42 ∷ inside)
@@ -99,15 +99,15 @@ module _ (joined : Bool) (at : ℕ) where
   chars_decided inside (broken rest is) = breaks_there 39 inside rest refl is
   chars_decided inside (unended is) = is_fault (OpenText at) (text_open joined at 39 inside refl is)
 
-  number_decided : (c : ℕ) (rest : List ℕ) → is_ascii_digit c ≡ true → Prefix joined at (c ∷ rest)
-  number_decided c rest digit = by (integer_or value)
+  number_decided : (text : List ℕ) → begins_number text ≡ true → Prefix joined at text
+  number_decided text begins = by (integer_or value)
     where
       value : ℤ
-      value = pos (decimal_value (first_digits (c ∷ rest)))
+      value = pos (number_at text)
 
-      by : IsInteger value ⊎ (IsInteger value → ⊥) → Prefix joined at (c ∷ rest)
-      by (inl fits) = stands (Int value) (after_digits (c ∷ rest)) (number_prefix joined c rest digit fits)
-      by (inr wide) = is_fault (TooWide at) (number_fault joined at c rest digit wide)
+      by : IsInteger value ⊎ (IsInteger value → ⊥) → Prefix joined at text
+      by (inl fits) = stands (Int value) (after_number text) (number_prefix joined text begins fits)
+      by (inr wide) = is_fault (TooWide at) (number_fault joined at text begins wide)
 
   atom_decided : (rest : List ℕ) → Prefix joined at (96 ∷ rest)
   atom_decided [] = is_fault (BadChar at) (lone_backquote joined at [] (no_word [] tt))
@@ -121,40 +121,45 @@ module _ (joined : Bool) (at : ℕ) where
       by begins (inl line) = is_fault (BadChar at) (lone_backquote joined at (c ∷ rest) (λ label. label.1 line))
       by begins (inr other) = stands (Atom (first_word (c ∷ rest))) (after_word (c ∷ rest)) (atom_prefix joined c rest begins other)
 
-  sign_decided : (c : ℕ) (rest : List ℕ) → is_other c ≡ true → (c ≡ 96 → ⊥) → begins_pair 40 42 (c ∷ rest) ≡ false
+  sign_decided : (c : ℕ) (rest : List ℕ) → is_other c ≡ true → begins_number (c ∷ rest) ≡ false → (c ≡ 96 → ⊥) → begins_pair 40 42 (c ∷ rest) ≡ false
       → (joined ≡ false → begins_negative (c ∷ rest) ≡ false) → Prefix joined at (c ∷ rest)
-  sign_decided c rest other no_backquote no_pair no_number = by (first_sign (c ∷ rest)) refl
+  sign_decided c rest other no_number_here no_backquote no_pair no_number = by (first_sign (c ∷ rest)) refl
     where
       by : (found : Option ASign) → first_sign (c ∷ rest) ≡ found → Prefix joined at (c ∷ rest)
       by (Some is) found = let sign = first_stands (c ∷ rest) is found in stands (Sign is) sign.0 (sign_stands joined (c ∷ rest) is sign.0 sign.1 no_pair no_number)
-      by None none = is_fault (BadChar at) (no_sign joined at c rest other no_backquote (none_stands (c ∷ rest) none))
+      by None none = is_fault (BadChar at) (no_sign joined at c rest other no_number_here no_backquote (none_stands (c ∷ rest) none))
+
+  -- a character that begins no number is no digit
+  no_digit : (a b : Bool) → (a || b) ≡ false → a ≡ false
+  no_digit true b none = absurd (true≢false none)
+  no_digit false b none = refl
 
   -- by the first character, where no comment and no negative number begins
   by_first : (c : ℕ) (rest : List ℕ) → begins_pair 40 42 (c ∷ rest) ≡ false → (joined ≡ false → begins_negative (c ∷ rest) ≡ false) → Prefix joined at (c ∷ rest)
   by_first c rest no_pair no_number =
-      by (cases_eq c 34) (cases_eq c 39) (cases_eq c 96) (cases_Bool (is_blank c)) (cases_Bool (begins_word c)) (cases_Bool (is_ascii_digit c))
+      by (cases_eq c 34) (cases_eq c 39) (cases_eq c 96) (cases_Bool (is_blank c)) (cases_Bool (begins_word c)) (cases_Bool (begins_number (c ∷ rest)))
     where
       by : ((c ≡ 34) ⊎ (c ≡ 34 → ⊥)) → ((c ≡ 39) ⊎ (c ≡ 39 → ⊥)) → ((c ≡ 96) ⊎ (c ≡ 96 → ⊥)) → ((is_blank c ≡ true) ⊎ (is_blank c ≡ false))
-          → ((begins_word c ≡ true) ⊎ (begins_word c ≡ false)) → ((is_ascii_digit c ≡ true) ⊎ (is_ascii_digit c ≡ false)) → Prefix joined at (c ∷ rest)
+          → ((begins_word c ≡ true) ⊎ (begins_word c ≡ false)) → ((begins_number (c ∷ rest) ≡ true) ⊎ (begins_number (c ∷ rest) ≡ false)) → Prefix joined at (c ∷ rest)
       by (inl is) b q k w d = subst (λ c. Prefix joined at (c ∷ rest)) (sym is) (text_decided rest (after_quote 34 rest))
       by (inr a) (inl is) q k w d = subst (λ c. Prefix joined at (c ∷ rest)) (sym is) (chars_decided rest (after_quote 39 rest))
       by (inr a) (inr b) (inl is) k w d = subst (λ c. Prefix joined at (c ∷ rest)) (sym is) (atom_decided rest)
       by (inr a) (inr b) (inr q) (inl is) w d = falls_away rest (blank_stands c rest is)
       by (inr a) (inr b) (inr q) (inr k) (inl is) d = stands (Word (first_word (c ∷ rest))) (after_word (c ∷ rest)) (word_prefix joined c rest is)
-      by (inr a) (inr b) (inr q) (inr k) (inr w) (inl is) = number_decided c rest is
+      by (inr a) (inr b) (inr q) (inr k) (inr w) (inl is) = number_decided (c ∷ rest) is
       by (inr a) (inr b) (inr q) (inr k) (inr w) (inr d) =
-          sign_decided c rest (other_by c k w d a b) q no_pair no_number
+          sign_decided c rest (other_by c k w (no_digit (is_ascii_digit c) _ d) a b) d q no_pair no_number
 
 -- a negative number
-negative_decided : (at d : ℕ) (rest : List ℕ) → is_ascii_digit d ≡ true → Prefix false at (45 ∷ d ∷ rest)
-negative_decided at d rest digit = by (integer_or value)
+negative_decided : (at : ℕ) (text : List ℕ) → begins_number text ≡ true → Prefix false at (45 ∷ text)
+negative_decided at text begins = by (integer_or value)
   where
     value : ℤ
-    value = neg_ℤ (pos (decimal_value (first_digits (d ∷ rest))))
+    value = neg_ℤ (pos (number_at text))
 
-    by : IsInteger value ⊎ (IsInteger value → ⊥) → Prefix false at (45 ∷ d ∷ rest)
-    by (inl fits) = stands (Int value) (after_digits (d ∷ rest)) (negative_prefix d rest digit fits)
-    by (inr wide) = is_fault (TooWide at) (negative_fault at d rest digit wide)
+    by : IsInteger value ⊎ (IsInteger value → ⊥) → Prefix false at (45 ∷ text)
+    by (inl fits) = stands (Int value) (after_number text) (negative_prefix text begins fits)
+    by (inr wide) = is_fault (TooWide at) (negative_fault at text begins wide)
 
 prefix_decided : (joined : Bool) (at c : ℕ) (rest : List ℕ) → Prefix joined at (c ∷ rest)
 prefix_decided joined at c rest = elim (cases_Bool (begins_pair 40 42 (c ∷ rest))) [
@@ -168,7 +173,7 @@ prefix_decided joined at c rest = elim (cases_Bool (begins_pair 40 42 (c ∷ res
     by true number no_pair = by_first true at c rest no_pair (λ apart. absurd (true≢false apart))
     by false (inl number) no_pair =
         let is = negative_is (c ∷ rest) number in
-        subst (Prefix false at) (sym is.2) (negative_decided at is.0 is.1 is.3)
+        subst (Prefix false at) (sym is.1) (negative_decided at is.0 is.2)
     by false (inr none) no_pair = by_first false at c rest no_pair (λ apart. none)
 
 -- tokens, or a first fault

@@ -1,6 +1,9 @@
 pub mod Stepping
 pub mod Wording
 pub mod Prefixing
+pub mod Splitting
+pub mod Numerals
+pub mod Hexadecimals
 pub mod Quoting
 pub mod Commenting
 pub mod Signing

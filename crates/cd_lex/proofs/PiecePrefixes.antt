@@ -6,14 +6,14 @@ use Rattle.std.specs.Prelude.{encode_utf8_all, ◌&&◌, ◌||◌, ◌==◌, not
 use Rattle.std.specs.Char.{is_ascii_digit}
 use Rattle.std.proofs.lemmas.Bool.{ne_eqb}
 use Rattle.cd_syntax.specs.Name.{begins_word}
-use Rattle.cd_syntax.specs.Digits.{BeginsWithNoDigit}
+use Rattle.cd_syntax.specs.Numerals.{begins_number, begins_negative}
 use Rattle.cd_syntax.specs.declared.sign.Sign.{Sign as ASign}
 use Rattle.cd_syntax.specs.declared.sign.Sign.TheVariants as sign
 use Rattle.cd_syntax.specs.declared.tokens.TokenKind.TheVariants.{Chars, Text, Sign}
 use Rattle.cd_syntax.specs.declared.tokens.LexError.TheVariants.{BadChar, OpenText, OpenComment}
 use Rattle.cd_syntax.specs.Signs.{characters, BeginsWith, IsLongest}
 use Rattle.cd_syntax.specs.Comments.{begins_pair, Closes, IsComment, comment}
-use Rattle.cd_syntax.specs.Tokens.{begins_negative, bytes}
+use Rattle.cd_syntax.specs.Tokens.{bytes}
 use Rattle.cd_syntax.specs.Tokens as tokens
 use Rattle.cd_syntax.specs.Faults.{is_other, HasFaultHere}
 use Rattle.cd_syntax.specs.Faults as faults
@@ -145,6 +145,7 @@ some_characters sign.GreaterEqual = omega arith
 some_characters sign.AndAnd = omega arith
 some_characters sign.OrOr = omega arith
 some_characters sign.Semicolons = omega arith
+some_characters sign.SlashAt = omega arith
 some_characters sign.OpenParenthesis = omega arith
 some_characters sign.CloseParenthesis = omega arith
 some_characters sign.OpenBracket = omega arith
@@ -164,6 +165,7 @@ some_characters sign.And = omega arith
 some_characters sign.Comma = omega arith
 some_characters sign.Semicolon = omega arith
 some_characters sign.Dot = omega arith
+some_characters sign.Slash = omega arith
 some_characters sign.Splice = omega arith
 some_characters sign.At = omega arith
 
@@ -189,43 +191,29 @@ other_sign_stands joined c text is rest no_parenthesis no_minus stands =
     no_pair (d ∷ ds) = ap (λ b. b && (d == 42)) (ne_eqb c 40 no_parenthesis)
 
     no_number : (text : List ℕ) → begins_negative (c ∷ text) ≡ false
-    no_number [] = refl
-    no_number (d ∷ ds) = ap (λ b. b && is_ascii_digit d) (ne_eqb c 45 no_minus)
+    no_number text = ap (λ b. b && begins_number text) (ne_eqb c 45 no_minus)
 
 -- a `(` with no `*` after it
 pub parenthesis_stands : (joined : Bool) (text : List ℕ) → BeginsWithOther 42 text → IsTokenTo joined (40 ∷ text) (Sign sign.OpenParenthesis) text
-parenthesis_stands joined text other = sign_stands joined (40 ∷ text) sign.OpenParenthesis text (lone_stands 40 40 sign.OpenParenthesis text open_parenthesis refl) (no_pair text other) (λ apart. no_number text)
+parenthesis_stands joined text other = sign_stands joined (40 ∷ text) sign.OpenParenthesis text (lone_stands 40 40 sign.OpenParenthesis text open_parenthesis refl) (no_pair text other) (λ apart. refl)
   where
     no_pair : (text : List ℕ) → BeginsWithOther 42 text → begins_pair 40 42 (40 ∷ text) ≡ false
     no_pair [] other = refl
     no_pair (d ∷ ds) other = ne_eqb d 42 other
 
-    no_number : (text : List ℕ) → begins_negative (40 ∷ text) ≡ false
-    no_number [] = refl
-    no_number (d ∷ ds) = refl
-
--- a `-` that is joined, or has no digit after it
-pub minus_stands : (joined : Bool) (text : List ℕ) (is : ASign) (rest : List ℕ) → (joined ≡ false → BeginsWithNoDigit text) → IsSignTo (45 ∷ text) is rest
+-- a `-` that is joined, or has no number after it
+pub minus_stands : (joined : Bool) (text : List ℕ) (is : ASign) (rest : List ℕ) → (joined ≡ false → begins_number text ≡ false) → IsSignTo (45 ∷ text) is rest
     → IsTokenTo joined (45 ∷ text) (Sign is) rest
-minus_stands joined text is rest no_digit stands = sign_stands joined (45 ∷ text) is rest stands (no_pair text) (λ apart. no_number text (no_digit apart))
+minus_stands joined text is rest no_number stands = sign_stands joined (45 ∷ text) is rest stands (no_pair text) no_number
   where
     no_pair : (text : List ℕ) → begins_pair 40 42 (45 ∷ text) ≡ false
     no_pair [] = refl
     no_pair (d ∷ ds) = refl
 
-    no_number : (text : List ℕ) → BeginsWithNoDigit text → begins_negative (45 ∷ text) ≡ false
-    no_number [] ends = refl
-    no_number (d ∷ ds) ends = ends
-
-pub lone_minus_stands : (joined : Bool) (text same : List ℕ) (is : ASign) (rest : List ℕ) → same ≡ text → BeginsWithNoDigit text → IsSignTo (45 ∷ same) is rest
-    → IsTokenTo joined (45 ∷ text) (Sign is) rest
-lone_minus_stands joined text same is rest at no_digit stands =
-    minus_stands joined text is rest (λ apart. no_digit) (subst (λ text. IsSignTo (45 ∷ text) is rest) at stands)
-
-pub no_sign : (joined : Bool) (at c : ℕ) (rest : List ℕ) → is_other c ≡ true → (c ≡ 96 → ⊥) → ((is : ASign) → BeginsWith (c ∷ rest) is → ⊥)
+pub no_sign : (joined : Bool) (at c : ℕ) (rest : List ℕ) → is_other c ≡ true → begins_number (c ∷ rest) ≡ false → (c ≡ 96 → ⊥) → ((is : ASign) → BeginsWith (c ∷ rest) is → ⊥)
     → HasFaultHere joined at (c ∷ rest) (BadChar at)
-no_sign joined at c rest other no_backquote none =
-    faults.character c rest other none (λ name more is label ends. let same : c ≡ 96 = cc in no_backquote same)
+no_sign joined at c rest other no_number no_backquote none =
+    faults.character c rest other no_number none (λ name more is label ends. let same : c ≡ 96 = cc in no_backquote same)
 
 -- a character that begins nothing else
 pub other_by : (c : ℕ) → tokens.is_blank c ≡ false → begins_word c ≡ false

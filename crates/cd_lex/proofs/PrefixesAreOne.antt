@@ -17,20 +17,23 @@ use Rattle.cd_syntax.specs.declared.tokens.LexError.{LexError}
 use Rattle.cd_syntax.specs.declared.tokens.LexError.TheVariants.{BadChar, OpenText, OpenComment, TooWide}
 use Rattle.cd_syntax.specs.Integer.{IsInteger}
 use Rattle.cd_syntax.specs.Name.{begins_word, goes_on_word, is_word, IsLabel}
-use Rattle.cd_syntax.specs.Digits.{AreDigits, decimal_value, BeginsWithNoDigit}
+use Rattle.cd_syntax.specs.Digits.{begins_hexadecimal}
+use Rattle.cd_syntax.specs.Numerals.{begins_number, begins_negative}
 use Rattle.cd_syntax.specs.Signs.{characters, BeginsWith}
 use Rattle.cd_syntax.specs.Quotes.{Quotes, BeginsNoEscape, EndsHalf}
 use Rattle.cd_syntax.specs.Comments.{begins_pair, Closes, IsComment}
 use Rattle.cd_syntax.specs.Comments as comments
-use Rattle.cd_syntax.specs.Tokens.{is_blank, begins_negative, bytes, joins, token_at, EndsWord, IsDropped, IsLexemeOf}
+use Rattle.cd_syntax.specs.Tokens.{is_blank, bytes, joins, token_at, EndsWord, IsDropped, IsLexemeOf}
 use Rattle.cd_syntax.specs.Tokens as tokens
 use Rattle.cd_syntax.specs.Faults.{is_quote, is_other, HasFaultHere}
 use Rattle.cd_syntax.specs.Faults as faults
 use Rattle.cd_lex.specs.Inner.Commenting.{within, length_from}
 use Rattle.cd_lex.specs.Inner.SignTable.{first_sign}
+use Rattle.cd_lex.specs.Inner.Numerals.{first_number, number_at, after_number}
 use Rattle.cd_lex.proofs.Commenting.{finds, closing_is}
 use Rattle.cd_lex.proofs.Signing.{first_is_longest, longest_is_first}
-use Rattle.cd_lex.proofs.Wording.{neither, digits_taken, word_taken, taken_and_rest, left}
+use Rattle.cd_lex.proofs.Wording.{neither, word_taken, taken_and_rest, left}
+use Rattle.cd_lex.proofs.Numerals.{IsFirst, number_is_first}
 use Rattle.cd_lex.proofs.OneWay.{Outcome, Stop, More, Decided, decided_once}
 use Rattle.cd_lex.proofs.QuotesAreOne.{Read, Closed, Broken, Open, ReadsQuote, quote_once, extend, quotes_read, closes_read, breaks_read, ends_read}
 
@@ -61,7 +64,8 @@ class_of c = if begins_word c then Named else (if is_blank c then Blank else (if
     else (if c == 39 then Quoted false else (if c == 34 then Quoted true else (if c == 96 then Backquote else Other)))))
 
 abbrev pub refined : Bool → List ℕ → Class → Class
-refined joined text Other = if begins_pair 40 42 text then Comment else (if not joined && begins_negative text then Negative else Other)
+refined joined text Other = if begins_pair 40 42 text then Comment else (if not joined && begins_negative text then Negative
+    else (if begins_number text then Number else Other))
 refined joined text class = class
 
 -- the steps
@@ -98,17 +102,21 @@ quote_step at double Open = fault_step (OpenText at)
 abbrev pub word_step : ℕ → List ℕ → (name : List ℕ) → Step
 word_step at text name = token_step at name (drop (length name) text) (Word name)
 
-abbrev pub signed : Bool → List ℕ → ℤ
-signed true digits = neg_ℤ (pos (decimal_value digits))
-signed false digits = pos (decimal_value digits)
+abbrev pub signed : Bool → ℕ → ℤ
+signed true n = neg_ℤ (pos n)
+signed false n = pos n
 
 abbrev pub with_sign : Bool → List ℕ → List ℕ
-with_sign true digits = 45 ∷ digits
-with_sign false digits = digits
+with_sign true written = 45 ∷ written
+with_sign false written = written
 
-abbrev pub NumberStep : ℕ → Bool → List ℕ → (digits : List ℕ) → Step → Type 0
-NumberStep at below text digits is =
-    Decided Step (IsInteger (signed below digits)) (token_step at (with_sign below digits) (drop (length digits) text) (Int (signed below digits))) (fault_step (TooWide at)) is
+-- the step at a number that is written so, before this rest
+abbrev pub NumeralStep : ℕ → Bool → (written rest : List ℕ) → ℕ → Step → Type 0
+NumeralStep at below written rest n is =
+    Decided Step (IsInteger (signed below n)) (token_step at (with_sign below written) rest (Int (signed below n))) (fault_step (TooWide at)) is
+
+abbrev pub NumberStep : ℕ → Bool → List ℕ → Step → Type 0
+NumberStep at below text is = NumeralStep at below (first_number text) (after_number text) (number_at text) is
 
 abbrev pub AtomStep : ℕ → List ℕ → (name : List ℕ) → Step → Type 0
 AtomStep at text name is = Decided Step (IsLabel name) (token_step at (96 ∷ name) (drop (length name) text) (Atom name)) (fault_step (BadChar at)) is
@@ -118,8 +126,8 @@ abbrev pub StepOf : ℕ → (c : ℕ) (rest : List ℕ) → Class → Step → T
 StepOf at c rest Blank is = is ≡ drop_step at (c ∷ []) rest
 StepOf at c rest Comment is = is ≡ comment_step at (drop 1 rest) (length_from (within 0) (drop 1 rest))
 StepOf at c rest Named is = is ≡ word_step at (c ∷ rest) (take_while goes_on_word (c ∷ rest))
-StepOf at c rest Number is = NumberStep at false (c ∷ rest) (take_while is_ascii_digit (c ∷ rest)) is
-StepOf at c rest Negative is = NumberStep at true rest (take_while is_ascii_digit rest) is
+StepOf at c rest Number is = NumberStep at false (c ∷ rest) is
+StepOf at c rest Negative is = NumberStep at true rest is
 StepOf at c rest (Quoted double) is = (read : Read) × ReadsQuote (quote_of double) rest read × (is ≡ quote_step at double read)
 StepOf at c rest Backquote is = AtomStep at rest (take_while goes_on_word rest) is
 StepOf at c rest Other is = is ≡ sign_step at (c ∷ rest) (first_sign (c ∷ rest))
@@ -136,8 +144,8 @@ step_once : (at c : ℕ) (rest : List ℕ) (class : Class) (a b : Step) → Step
 step_once at c rest Blank a b one two = one ∙ sym two
 step_once at c rest Comment a b one two = one ∙ sym two
 step_once at c rest Named a b one two = one ∙ sym two
-step_once at c rest Number a b one two = let digits = take_while is_ascii_digit (c ∷ rest) in decided_once Step (IsInteger (signed false digits)) _ _ a b one two
-step_once at c rest Negative a b one two = let digits = take_while is_ascii_digit rest in decided_once Step (IsInteger (signed true digits)) _ _ a b one two
+step_once at c rest Number a b one two = decided_once Step (IsInteger (signed false (number_at (c ∷ rest)))) _ _ a b one two
+step_once at c rest Negative a b one two = decided_once Step (IsInteger (signed true (number_at rest))) _ _ a b one two
 step_once at c rest (Quoted double) a b one two = one.2 ∙ ap (quote_step at double) (quote_once (quote_of double) rest one.0 two.0 one.1 two.1) ∙ sym two.2
 step_once at c rest Backquote a b one two = decided_once Step (IsLabel (take_while goes_on_word rest)) _ _ a b one two
 step_once at c rest Other a b one two = one ∙ sym two
@@ -215,28 +223,39 @@ dropped_prefix joined at _ rest (tokens.comment _ (comments.comment inside close
     ap (λ t. drop_step at (40 ∷ 42 ∷ t) (drop (length inside) (inside ++ rest))) (take-append_seam inside rest) ∙ ap (λ t. drop_step at (40 ∷ 42 ∷ inside) t) (drop-append_seam inside rest) in
     sym (ap (comment_step at (inside ++ rest)) found ∙ same)
 
--- numbers, where digits stand
-number_at : (at : ℕ) (below : Bool) (digits rest : List ℕ) (is : Step) → AreDigits digits → BeginsWithNoDigit rest
-    → Decided Step (IsInteger (signed below digits)) (token_step at (with_sign below digits) rest (Int (signed below digits))) (fault_step (TooWide at)) is
-    → NumberStep at below (digits ++ rest) (take_while is_ascii_digit (digits ++ rest)) is
-number_at at below digits rest is are ends decided =
-    subst (λ t. NumberStep at below (digits ++ rest) t is) (sym (digits_taken digits rest are ends))
-    (subst (λ t. Decided Step (IsInteger (signed below digits)) (token_step at (with_sign below digits) t (Int (signed below digits))) (fault_step (TooWide at)) is)
-    (sym (drop-append_seam digits rest)) decided)
+-- numbers, where they stand
+number_step : (at : ℕ) (below : Bool) (written rest : List ℕ) (n : ℕ) (is : Step) → IsFirst written rest n
+    → NumeralStep at below written rest n is → NumberStep at below (written ++ rest) is
+number_step at below written rest n is first step =
+    subst (λ w. NumeralStep at below w (after_number (written ++ rest)) (number_at (written ++ rest)) is) (sym first.writes)
+    (subst (λ r. NumeralStep at below written r (number_at (written ++ rest)) is) (sym first.leaves)
+    (subst (λ n. NumeralStep at below written rest n is) (sym first.value) step))
 
-number_prefix : (joined : Bool) (at : ℕ) (digits rest : List ℕ) (is : Step) → AreDigits digits
-    → NumberStep at false (digits ++ rest) (take_while is_ascii_digit (digits ++ rest)) is → StepAt joined at (digits ++ rest) is
-number_prefix joined at [] rest is are step = absurd (are.1 refl)
-number_prefix joined at (c ∷ cs) rest is are step =
-    classed joined at c (cs ++ rest) Number is (digit_class c (and_parts (is_ascii_digit c) (list_all is_ascii_digit cs) are.0).0) step
+number_prefix : (joined : Bool) (at : ℕ) (text : List ℕ) (is : Step) → begins_number text ≡ true → NumberStep at false text is → StepAt joined at text is
+number_prefix joined at [] is begins step = absurd (true≢false (sym begins))
+number_prefix joined at (c ∷ rest) is begins step = by (or_cases (is_ascii_digit c) ((c == 35) && begins_hexadecimal rest) begins)
+  where
+    -- a `#` begins no comment and no negative number
+    marked : (joined : Bool) (rest : List ℕ) → begins_hexadecimal rest ≡ true → refined joined (35 ∷ rest) Other ≡ Number
+    marked joined [] begins = absurd (true≢false (sym begins))
+    marked true (d ∷ rest) begins = cond-true (begins_hexadecimal (d ∷ rest)) Number Other begins
+    marked false (d ∷ rest) begins = cond-true (begins_hexadecimal (d ∷ rest)) Number Other begins
 
-negative_prefix : (joined : Bool) (at : ℕ) (digits rest : List ℕ) (is : Step) → joined ≡ false → AreDigits digits
-    → NumberStep at true (digits ++ rest) (take_while is_ascii_digit (digits ++ rest)) is → StepAt joined at (45 ∷ digits ++ rest) is
-negative_prefix joined at [] rest is apart are step = absurd (are.1 refl)
-negative_prefix true at (c ∷ cs) rest is apart are step = absurd (true≢false apart)
-negative_prefix false at (c ∷ cs) rest is apart are step =
-    let digit : is_ascii_digit c ≡ true = (and_parts (is_ascii_digit c) (list_all is_ascii_digit cs) are.0).0 in
-    subst (λ class. StepOf at 45 (c ∷ cs ++ rest) class is) (sym (cond-true (is_ascii_digit c) Negative Other digit)) step
+    by : (is_ascii_digit c ≡ true) ⊎ (((c == 35) && begins_hexadecimal rest) ≡ true) → StepAt joined at (c ∷ rest) is
+    by (inl digit) = classed joined at c rest Number is (digit_class c digit) step
+    by (inr mark) =
+        let parts = and_parts (c == 35) (begins_hexadecimal rest) mark in
+        let same = eqb-true c 35 parts.0 in
+        subst (λ c. StepAt joined at (c ∷ rest) is) (sym same)
+        (subst (λ class. StepOf at 35 rest class is) (sym (marked joined rest parts.1))
+        (subst (λ c. NumberStep at false (c ∷ rest) is) same step))
+
+negative_prefix : (joined : Bool) (at : ℕ) (text : List ℕ) (is : Step) → joined ≡ false → begins_number text ≡ true
+    → NumberStep at true text is → StepAt joined at (45 ∷ text) is
+negative_prefix joined at [] is apart begins step = absurd (true≢false (sym begins))
+negative_prefix true at (c ∷ rest) is apart begins step = absurd (true≢false apart)
+negative_prefix false at (c ∷ rest) is apart begins step =
+    subst (λ class. StepOf at 45 (c ∷ rest) class is) (sym (cond-true (begins_number (c ∷ rest)) Negative Other begins)) step
 
 -- words
 word_prefix : (joined : Bool) (at : ℕ) (name rest : List ℕ) → IsTrue (is_word name) → EndsWord rest → StepAt joined at (name ++ rest) (token_step at name rest (Word name))
@@ -314,6 +333,7 @@ sign_class sign.GreaterEqual rest = refl
 sign_class sign.AndAnd rest = refl
 sign_class sign.OrOr rest = refl
 sign_class sign.Semicolons rest = refl
+sign_class sign.SlashAt rest = refl
 sign_class sign.OpenParenthesis rest = refl
 sign_class sign.CloseParenthesis rest = refl
 sign_class sign.OpenBracket rest = refl
@@ -333,35 +353,84 @@ sign_class sign.And rest = refl
 sign_class sign.Comma rest = refl
 sign_class sign.Semicolon rest = refl
 sign_class sign.Dot rest = refl
+sign_class sign.Slash rest = refl
 sign_class sign.Splice rest = refl
 sign_class sign.At rest = refl
 
--- neither a comment nor a number
-stays_other : (joined : Bool) (text : List ℕ) → begins_pair 40 42 text ≡ false → (joined ≡ false → begins_negative text ≡ false) → refined joined text Other ≡ Other
-stays_other true text no_comment no_number = cond-false (begins_pair 40 42 text) _ _ no_comment
-stays_other false text no_comment no_number = cond-false (begins_pair 40 42 text) _ _ no_comment ∙ cond-false (begins_negative text) _ _ (no_number refl)
+-- no number begins where a sign does
+sign_no_number : (is : ASign) (rest : List ℕ) → begins_number (characters is ++ rest) ≡ false
+sign_no_number sign.StarTo rest = refl
+sign_no_number sign.ToStar rest = refl
+sign_no_number sign.StarQuestion rest = refl
+sign_no_number sign.PlusQuestion rest = refl
+sign_no_number sign.QuestionQuestion rest = refl
+sign_no_number sign.EqualQuestion rest = refl
+sign_no_number sign.To rest = refl
+sign_no_number sign.Arrow rest = refl
+sign_no_number sign.ColonColon rest = refl
+sign_no_number sign.Becomes rest = refl
+sign_no_number sign.Dots rest = refl
+sign_no_number sign.NotEqual rest = refl
+sign_no_number sign.LessEqual rest = refl
+sign_no_number sign.GreaterEqual rest = refl
+sign_no_number sign.AndAnd rest = refl
+sign_no_number sign.OrOr rest = refl
+sign_no_number sign.Semicolons rest = refl
+sign_no_number sign.SlashAt rest = refl
+sign_no_number sign.OpenParenthesis rest = refl
+sign_no_number sign.CloseParenthesis rest = refl
+sign_no_number sign.OpenBracket rest = refl
+sign_no_number sign.CloseBracket rest = refl
+sign_no_number sign.OpenBrace rest = refl
+sign_no_number sign.CloseBrace rest = refl
+sign_no_number sign.Less rest = refl
+sign_no_number sign.Greater rest = refl
+sign_no_number sign.Equal rest = refl
+sign_no_number sign.Question rest = refl
+sign_no_number sign.Star rest = refl
+sign_no_number sign.Plus rest = refl
+sign_no_number sign.Minus rest = refl
+sign_no_number sign.Backslash rest = refl
+sign_no_number sign.Or rest = refl
+sign_no_number sign.And rest = refl
+sign_no_number sign.Comma rest = refl
+sign_no_number sign.Semicolon rest = refl
+sign_no_number sign.Dot rest = refl
+sign_no_number sign.Slash rest = refl
+sign_no_number sign.Splice rest = refl
+sign_no_number sign.At rest = refl
 
-other_prefix : (joined : Bool) (at : ℕ) (text : List ℕ) (is : Step) → first_class text ≡ Other → begins_pair 40 42 text ≡ false → (joined ≡ false → begins_negative text ≡ false)
-    → is ≡ sign_step at text (first_sign text) → StepAt joined at text is
-other_prefix joined at [] is class no_comment no_number step = absurd cc
-other_prefix joined at (c ∷ cs) is class no_comment no_number step =
-    classed joined at c cs Other is class (subst (λ class. StepOf at c cs class is) (sym (stays_other joined (c ∷ cs) no_comment no_number)) step)
+-- neither a comment nor a number
+stays_other : (joined : Bool) (text : List ℕ) → begins_pair 40 42 text ≡ false → begins_number text ≡ false → (joined ≡ false → begins_negative text ≡ false)
+    → refined joined text Other ≡ Other
+stays_other true text no_comment no_number no_negative =
+    cond-false (begins_pair 40 42 text) _ _ no_comment ∙ cond-false (begins_number text) _ _ no_number
+stays_other false text no_comment no_number no_negative =
+    cond-false (begins_pair 40 42 text) _ _ no_comment ∙ cond-false (begins_negative text) _ _ (no_negative refl) ∙ cond-false (begins_number text) _ _ no_number
+
+other_prefix : (joined : Bool) (at : ℕ) (text : List ℕ) (is : Step) → first_class text ≡ Other → begins_pair 40 42 text ≡ false → begins_number text ≡ false
+    → (joined ≡ false → begins_negative text ≡ false) → is ≡ sign_step at text (first_sign text) → StepAt joined at text is
+other_prefix joined at [] is class no_comment no_number no_negative step = absurd cc
+other_prefix joined at (c ∷ cs) is class no_comment no_number no_negative step =
+    classed joined at c cs Other is class (subst (λ class. StepOf at c cs class is) (sym (stays_other joined (c ∷ cs) no_comment no_number no_negative)) step)
 
 -- each token
 pub token_prefix : (joined : Bool) (at : ℕ) (written rest : List ℕ) (kind : TokenKind) → IsLexemeOf joined written rest kind → PrefixStep (joined, at, written ++ rest) (token_step at written rest kind)
 token_prefix joined at _ _ _ (tokens.word name rest is ends) = word_prefix joined at name rest is ends
-token_prefix joined at _ _ _ (tokens.number digits rest are ends fits) =
-    let is = token_step at digits rest (Int (pos (decimal_value digits))) in
-    number_prefix joined at digits rest is are (number_at at false digits rest is are ends (inl (fits, refl)))
-token_prefix joined at _ _ _ (tokens.negative digits rest apart are ends fits) =
-    let is = token_step at (45 ∷ digits) rest (Int (neg_ℤ (pos (decimal_value digits)))) in
-    negative_prefix joined at digits rest is apart are (number_at at true digits rest is are ends (inl (fits, refl)))
+token_prefix joined at _ _ _ (tokens.number written rest n numeral fits) =
+    let first = number_is_first written rest n numeral in
+    number_prefix joined at (written ++ rest) (token_step at written rest (Int (pos n))) first.begins
+    (number_step at false written rest n (token_step at written rest (Int (pos n))) first (inl (fits, refl)))
+token_prefix joined at _ _ _ (tokens.negative written rest n apart numeral fits) =
+    let first = number_is_first written rest n numeral in
+    let is = token_step at (45 ∷ written) rest (Int (neg_ℤ (pos n))) in
+    negative_prefix joined at (written ++ rest) is apart first.begins (number_step at true written rest n is first (inl (fits, refl)))
 token_prefix joined at _ _ _ (tokens.chars written means rest quotes) = closed_prefix joined at false written means rest quotes
 token_prefix joined at _ _ _ (tokens.text written means rest quotes) = closed_prefix joined at true written means rest quotes
 token_prefix joined at _ _ _ (tokens.atom name rest label ends) = atom_prefix joined at name rest label ends
 token_prefix joined at _ _ _ (tokens.sign is rest longest no_comment no_number) =
     let text = characters is ++ rest in
-    other_prefix joined at text (token_step at (characters is) rest (Sign is)) (sign_class is rest) no_comment no_number
+    other_prefix joined at text (token_step at (characters is) rest (Sign is)) (sign_class is rest) no_comment (sign_no_number is rest) no_number
     (sym (ap (sign_step at text) (longest_is_first text is longest) ∙ ap (λ t. token_step at (characters is) t (Sign is)) (drop-append_seam (characters is) rest)))
 
 -- a character that begins nothing
@@ -370,8 +439,7 @@ no_pair a b c [] differs = refl
 no_pair a b c (d ∷ rest) differs = ap (λ x. x && (d == b)) differs
 
 no_negative : (c : ℕ) (rest : List ℕ) → (c == 45) ≡ false → begins_negative (c ∷ rest) ≡ false
-no_negative c [] differs = refl
-no_negative c (d ∷ rest) differs = ap (λ x. x && is_ascii_digit d) differs
+no_negative c rest differs = ap (λ x. x && begins_number rest) differs
 
 no_first : (text : List ℕ) → ((is : ASign) → BeginsWith text is → ⊥) → first_sign text ≡ None
 no_first text none = by_found (first_sign text) refl
@@ -380,9 +448,9 @@ no_first text none = by_found (first_sign text) refl
     by_found None found = found
     by_found (Some is) found = absurd (none is (first_is_longest text is found).stands)
 
-character_prefix : (joined : Bool) (at c : ℕ) (rest : List ℕ) → is_other c ≡ true → ((is : ASign) → BeginsWith (c ∷ rest) is → ⊥)
+character_prefix : (joined : Bool) (at c : ℕ) (rest : List ℕ) → is_other c ≡ true → begins_number (c ∷ rest) ≡ false → ((is : ASign) → BeginsWith (c ∷ rest) is → ⊥)
     → ((name more : List ℕ) → c ∷ rest ≡ 96 ∷ name ++ more → IsLabel name → EndsWord more → ⊥) → StepAt joined at (c ∷ rest) (fault_step (BadChar at))
-character_prefix joined at c rest nothing no_sign no_atom = by (cases_eq c 96)
+character_prefix joined at c rest nothing no_number no_sign no_atom = by (cases_eq c 96)
   where
     unlike : (k : ℕ) (is : ASign) → characters is ≡ k ∷ [] → (c == k) ≡ false
     unlike k is written = ne_eqb c k (λ same. no_sign is (rest, ap (λ c. c ∷ rest) same ∙ ap (λ t. t ++ rest) (sym written)))
@@ -398,7 +466,7 @@ character_prefix joined at c rest nothing no_sign no_atom = by (cases_eq c 96)
         ))
     by (inr differs) =
         other_prefix joined at (c ∷ rest) (fault_step (BadChar at)) (nothing_class c nothing ∙ cond-false (c == 96) _ _ (ne_eqb c 96 differs))
-        (no_pair 40 42 c rest (unlike 40 sign.OpenParenthesis refl)) (λ apart. no_negative c rest (unlike 45 sign.Minus refl))
+        (no_pair 40 42 c rest (unlike 40 sign.OpenParenthesis refl)) no_number (λ apart. no_negative c rest (unlike 45 sign.Minus refl))
         (sym (ap (sign_step at (c ∷ rest)) (no_first (c ∷ rest) no_sign)))
 
 -- a comment that nothing closes
@@ -414,7 +482,7 @@ open_comment_prefix joined at inside none = by (length_from (within 0) inside) r
 
 -- each fault
 pub fault_prefix : (joined : Bool) (at : ℕ) (text : List ℕ) (fault : LexError) → HasFaultHere joined at text fault → PrefixStep (joined, at, text) (fault_step fault)
-fault_prefix joined at _ _ (faults.character c rest nothing no_sign no_atom) = character_prefix joined at c rest nothing no_sign no_atom
+fault_prefix joined at _ _ (faults.character c rest nothing no_number no_sign no_atom) = character_prefix joined at c rest nothing no_number no_sign no_atom
 fault_prefix joined at _ _ (faults.escape q written means rest is quotes breaks) =
     let double = which_quote q is in
     subst (λ q. StepAt joined at (q ∷ written ++ rest) (fault_step (BadChar (at + bytes (q ∷ written))))) double.1
@@ -424,9 +492,11 @@ fault_prefix joined at _ _ (faults.open_text q written means rest is quotes ends
     subst (λ q. StepAt joined at (q ∷ written ++ rest) (fault_step (OpenText at))) double.1
     (open_prefix joined at double.0 written means rest (subst (λ q. Quotes q written means) (sym double.1) quotes) ends)
 fault_prefix joined at _ _ (faults.open_comment inside none) = open_comment_prefix joined at inside none
-fault_prefix joined at _ _ (faults.number digits rest are ends wide) =
-    let is = fault_step (TooWide at) in
-    number_prefix joined at digits rest is are (number_at at false digits rest is are ends (inr (wide, refl)))
-fault_prefix joined at _ _ (faults.negative digits rest apart are ends wide) =
-    let is = fault_step (TooWide at) in
-    negative_prefix joined at digits rest is apart are (number_at at true digits rest is are ends (inr (wide, refl)))
+fault_prefix joined at _ _ (faults.number written rest n numeral wide) =
+    let first = number_is_first written rest n numeral in
+    number_prefix joined at (written ++ rest) (fault_step (TooWide at)) first.begins
+    (number_step at false written rest n (fault_step (TooWide at)) first (inr (wide, refl)))
+fault_prefix joined at _ _ (faults.negative written rest n apart numeral wide) =
+    let first = number_is_first written rest n numeral in
+    negative_prefix joined at (written ++ rest) (fault_step (TooWide at)) apart first.begins
+    (number_step at true written rest n (fault_step (TooWide at)) first (inr (wide, refl)))

@@ -168,6 +168,15 @@ pub dot : ArePair 46 46 sign.Dots sign.Dot
 unfolding first_sign
 dot = record { long_is = refl; short_is = refl; longer = λ rest. refl; shorter = dot_alone }
 
+slash_alone : (rest : List ℕ) → BeginsWithOther 64 rest → first_sign (47 ∷ rest) ≡ Some sign.Slash
+unfolding first_sign
+slash_alone [] other = refl
+slash_alone (d ∷ rest) other = ap (λ b. if b && true then Some sign.SlashAt else Some sign.Slash) (ne_eqb 64 d (λ is. other (sym is)))
+
+pub slash : ArePair 47 64 sign.SlashAt sign.Slash
+unfolding first_sign
+slash = record { long_is = refl; short_is = refl; longer = λ rest. refl; shorter = slash_alone }
+
 -- after a `-`
 minus_alone : (rest : List ℕ) → BeginsWithOther 62 rest → BeginsWithOther 45 rest → first_sign (45 ∷ rest) ≡ Some sign.Minus
 unfolding first_sign

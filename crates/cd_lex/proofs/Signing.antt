@@ -90,6 +90,7 @@ itself sign.GreaterEqual = refl
 itself sign.AndAnd = refl
 itself sign.OrOr = refl
 itself sign.Semicolons = refl
+itself sign.SlashAt = refl
 itself sign.OpenParenthesis = refl
 itself sign.CloseParenthesis = refl
 itself sign.OpenBracket = refl
@@ -109,6 +110,7 @@ itself sign.And = refl
 itself sign.Comma = refl
 itself sign.Semicolon = refl
 itself sign.Dot = refl
+itself sign.Slash = refl
 itself sign.Splice = refl
 itself sign.At = refl
 

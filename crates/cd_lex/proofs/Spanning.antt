@@ -8,13 +8,14 @@ use Rattle.cd_syntax.specs.Signs.{characters}
 use Rattle.cd_syntax.specs.Tokens.{bytes, joins, IsLexemeOf, Lexes, word as writes_word, number as writes_number, negative as writes_negative, chars as writes_chars, text as writes_text, atom as writes_atom, sign as writes_sign, nothing as spells_nothing, dropped as spells_dropped, token as spells_token}
 use Rattle.cd_lex.specs.Spans.{AreInOrder, AreSlices}
 use Rattle.cd_lex.proofs.PiecePrefixes.{bytes_append, some_characters}
-use Rattle.cd_lex.proofs.WordPrefixes.{some_length, word_length}
+use Rattle.cd_lex.proofs.WordPrefixes.{word_length}
+use Rattle.cd_lex.proofs.Numerals.{numeral_length}
 
 -- each token has a character, and so a byte
 written_length : (joined : Bool) (written text : List ℕ) (kind : TokenKind) → IsLexemeOf joined written text kind → 0 < length written
 written_length joined _ _ _ (writes_word name text is ends) = word_length name is
-written_length joined _ _ _ (writes_number digits text are ends fits) = some_length digits are.1
-written_length joined _ _ _ (writes_negative digits text apart are ends fits) = omega arith
+written_length joined _ _ _ (writes_number written text n numeral fits) = numeral_length written text n numeral
+written_length joined _ _ _ (writes_negative written text n apart numeral fits) = omega arith
 written_length joined _ _ _ (writes_chars written characters text quotes) = omega arith
 written_length joined _ _ _ (writes_text written characters text quotes) = omega arith
 written_length joined _ _ _ (writes_atom name text label ends) = omega arith

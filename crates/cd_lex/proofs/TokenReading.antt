@@ -32,8 +32,8 @@ shorter text written new is = ap length is ∙ length-append written new
 writes_sound : (joined : Bool) (written text : List ℕ) (kind : TokenKind)
     → IsLexemeOf joined written text kind → IsSoundKind kind
 writes_sound joined _ _ _ (tokens.word name text is ends) = is
-writes_sound joined _ _ _ (tokens.number digits text are begins fits) = tt
-writes_sound joined _ _ _ (tokens.negative digits text apart are begins fits) = tt
+writes_sound joined _ _ _ (tokens.number written text n numeral fits) = tt
+writes_sound joined _ _ _ (tokens.negative written text n apart numeral fits) = tt
 writes_sound joined _ _ _ (tokens.chars written characters text is) = tt
 writes_sound joined _ _ _ (tokens.text written characters text is) = tt
 writes_sound joined _ _ _ (tokens.atom name text is ends) = is

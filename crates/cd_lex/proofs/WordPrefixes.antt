@@ -16,19 +16,17 @@ use Rattle.cd_syntax.specs.declared.tokens.TokenKind.TheVariants.{Word, Int, Ato
 use Rattle.cd_syntax.specs.declared.tokens.LexError.TheVariants.{BadChar, TooWide}
 use Rattle.cd_syntax.specs.Integer.{IsInteger}
 use Rattle.cd_syntax.specs.Name.{begins_word, goes_on_word, is_word, IsLabel}
-use Rattle.cd_syntax.specs.Digits.{AreDigits, decimal_value, BeginsWithNoDigit}
+use Rattle.cd_syntax.specs.Digits.{decimal_value}
+use Rattle.cd_syntax.specs.Numerals.{begins_number}
 use Rattle.cd_syntax.specs.Signs.{characters}
 use Rattle.cd_syntax.specs.Tokens as tokens
 use Rattle.cd_syntax.specs.Faults.{HasFaultHere, character as breaks_character, number as breaks_number, negative as breaks_negative}
 use Rattle.cd_lex.specs.Inner.Prefixes.{BeginsWithNoWord, IsWordTo, first_word, after_word, first_digits, after_digits}
 use Rattle.cd_lex.specs.Inner.Number.{with_sign}
+use Rattle.cd_lex.specs.Inner.Numerals.{first_number, number_at, after_number}
 use Rattle.cd_lex.specs.Inner.Standing.{IsTokenTo, IsErrorHere}
-use Rattle.cd_lex.proofs.Wording.{word_stands, digits_stand, taken_first, taken_none, taken_and_rest, word_taken}
-
--- a list that is not empty has a length
-pub some_length : (xs : List ℕ) → xs ≢ [] → 0 < length xs
-some_length [] not_empty = absurd (not_empty refl)
-some_length (x ∷ xs) not_empty = omega arith
+use Rattle.cd_lex.proofs.Wording.{word_stands, taken_first, taken_none, taken_and_rest, word_taken}
+use Rattle.cd_lex.proofs.Numerals.{number_stands, numeral_length, digit_begins, decimal_at}
 
 -- a word is not empty
 pub word_length : (name : List ℕ) → IsTrue (is_word name) → 0 < length name
@@ -67,67 +65,63 @@ pub word_prefix : (joined : Bool) (c : ℕ) (rest : List ℕ) → begins_word c 
 word_prefix joined c rest begins = word_token joined (c ∷ rest) (first_word (c ∷ rest))
     (after_word (c ∷ rest)) (word_there c rest begins)
 
--- digits stand where one does
-digits_are : (c : ℕ) (rest : List ℕ) → is_ascii_digit c ≡ true → AreDigits (first_digits (c ∷ rest)) × BeginsWithNoDigit (after_digits (c ∷ rest))
-digits_are c rest digit = digits_stand (c ∷ rest) c rest refl digit
-
--- a number stands there
-pub number_prefix : (joined : Bool) (c : ℕ) (rest : List ℕ) → is_ascii_digit c ≡ true → IsInteger (pos (decimal_value (first_digits (c ∷ rest))))
-    → IsTokenTo joined (c ∷ rest) (Int (pos (decimal_value (first_digits (c ∷ rest))))) (after_digits (c ∷ rest))
-number_prefix joined c rest digit fits =
-    let stood = digits_are c rest digit in
+-- a number stands where it begins, if it fits
+pub number_prefix : (joined : Bool) (text : List ℕ) → begins_number text ≡ true → IsInteger (pos (number_at text))
+    → IsTokenTo joined text (Int (pos (number_at text))) (after_number text)
+number_prefix joined text begins fits =
+    let stood = number_stands text begins in
     record {
-      written = first_digits (c ∷ rest);
-      is = taken_and_rest is_ascii_digit (c ∷ rest);
-      some = some_length (first_digits (c ∷ rest)) stood.0.1;
-      writes = tokens.number (first_digits (c ∷ rest)) (after_digits (c ∷ rest)) stood.0 stood.1 fits;
+      written = first_number text;
+      is = stood.0;
+      some = numeral_length (first_number text) (after_number text) (number_at text) stood.1;
+      writes = tokens.number (first_number text) (after_number text) (number_at text) stood.1 fits;
     }
 
 -- and with a `-` before it, a negative one
-pub negative_prefix : (c : ℕ) (rest : List ℕ) → is_ascii_digit c ≡ true → IsInteger (neg_ℤ (pos (decimal_value (first_digits (c ∷ rest)))))
-    → IsTokenTo false (45 ∷ c ∷ rest) (Int (neg_ℤ (pos (decimal_value (first_digits (c ∷ rest)))))) (after_digits (c ∷ rest))
-negative_prefix c rest digit fits =
-    let stood = digits_are c rest digit in
+pub negative_prefix : (text : List ℕ) → begins_number text ≡ true → IsInteger (neg_ℤ (pos (number_at text)))
+    → IsTokenTo false (45 ∷ text) (Int (neg_ℤ (pos (number_at text)))) (after_number text)
+negative_prefix text begins fits =
+    let stood = number_stands text begins in
     record {
-      written = 45 ∷ first_digits (c ∷ rest);
-      is = ap (λ text. 45 ∷ text) (taken_and_rest is_ascii_digit (c ∷ rest));
+      written = 45 ∷ first_number text;
+      is = ap (λ text. 45 ∷ text) stood.0;
       some = omega arith;
-      writes = tokens.negative (first_digits (c ∷ rest)) (after_digits (c ∷ rest)) refl stood.0 stood.1 fits;
+      writes = tokens.negative (first_number text) (after_number text) (number_at text) refl stood.1 fits;
     }
 
 -- numbers that do not fit
-pub number_fault : (joined : Bool) (at c : ℕ) (rest : List ℕ) → is_ascii_digit c ≡ true → (IsInteger (pos (decimal_value (first_digits (c ∷ rest)))) → ⊥)
-    → HasFaultHere joined at (c ∷ rest) (TooWide at)
-number_fault joined at c rest digit wide =
-    let stood = digits_are c rest digit in
-    subst (λ text. HasFaultHere joined at text (TooWide at)) (sym (taken_and_rest is_ascii_digit (c ∷ rest)))
-    (breaks_number (first_digits (c ∷ rest)) (after_digits (c ∷ rest)) stood.0 stood.1 wide)
+pub number_fault : (joined : Bool) (at : ℕ) (text : List ℕ) → begins_number text ≡ true → (IsInteger (pos (number_at text)) → ⊥)
+    → HasFaultHere joined at text (TooWide at)
+number_fault joined at text begins wide =
+    let stood = number_stands text begins in
+    subst (λ text. HasFaultHere joined at text (TooWide at)) (sym stood.0)
+    (breaks_number (first_number text) (after_number text) (number_at text) stood.1 wide)
 
-pub negative_fault : (at c : ℕ) (rest : List ℕ) → is_ascii_digit c ≡ true → (IsInteger (neg_ℤ (pos (decimal_value (first_digits (c ∷ rest))))) → ⊥)
-    → HasFaultHere false at (45 ∷ c ∷ rest) (TooWide at)
-negative_fault at c rest digit wide =
-    let stood = digits_are c rest digit in
-    subst (λ text. HasFaultHere false at (45 ∷ text) (TooWide at)) (sym (taken_and_rest is_ascii_digit (c ∷ rest)))
-    (breaks_negative (first_digits (c ∷ rest)) (after_digits (c ∷ rest)) refl stood.0 stood.1 wide)
+pub negative_fault : (at : ℕ) (text : List ℕ) → begins_number text ≡ true → (IsInteger (neg_ℤ (pos (number_at text))) → ⊥)
+    → HasFaultHere false at (45 ∷ text) (TooWide at)
+negative_fault at text begins wide =
+    let stood = number_stands text begins in
+    subst (λ text. HasFaultHere false at (45 ∷ text) (TooWide at)) (sym stood.0)
+    (breaks_negative (first_number text) (after_number text) (number_at text) refl stood.1 wide)
 
 -- a signed number is read back from its bits
 read_back : (n : ℤ) → IsInteger n → to_z w128 (of_z w128 n) ≡ n
 read_back n fits = omega (arith, ints)
 
--- a number as the lexer reads it: a `-` stands before its digits, or none
-pub numeral_prefix : (negative : Bool) (c : ℕ) (rest new : List ℕ) (n : ℤ) → is_ascii_digit c ≡ true
-    → (n ≡ with_sign negative (decimal_value (first_digits (c ∷ rest)))) × IsInteger (with_sign negative (decimal_value (first_digits (c ∷ rest))))
-    → new ≡ after_digits (c ∷ rest)
-    → ((joined : Bool) → negative ≡ false → IsTokenTo joined (c ∷ rest) (Int (to_z w128 (of_z w128 n))) new)
-    × (negative ≡ true → IsTokenTo false (45 ∷ c ∷ rest) (Int (to_z w128 (of_z w128 n))) new)
-numeral_prefix true c rest new n digit is after = (
+-- a number as the lexer reads it: a `-` stands before it, or none
+pub numeral_prefix : (negative : Bool) (text new : List ℕ) (n : ℤ) → begins_number text ≡ true
+    → (n ≡ with_sign negative (number_at text)) × IsInteger (with_sign negative (number_at text))
+    → new ≡ after_number text
+    → ((joined : Bool) → negative ≡ false → IsTokenTo joined text (Int (to_z w128 (of_z w128 n))) new)
+    × (negative ≡ true → IsTokenTo false (45 ∷ text) (Int (to_z w128 (of_z w128 n))) new)
+numeral_prefix true text new n begins is after = (
   λ joined no. absurd (true≢false no),
-  λ yes. subst (λ n. IsTokenTo false (45 ∷ c ∷ rest) (Int n) new) (sym (read_back n (subst IsInteger (sym is.0) is.1) ∙ is.0))
-      (subst (IsTokenTo false (45 ∷ c ∷ rest) (Int (neg_ℤ (pos (decimal_value (first_digits (c ∷ rest))))))) (sym after) (negative_prefix c rest digit is.1)),
+  λ yes. subst (λ n. IsTokenTo false (45 ∷ text) (Int n) new) (sym (read_back n (subst IsInteger (sym is.0) is.1) ∙ is.0))
+      (subst (IsTokenTo false (45 ∷ text) (Int (neg_ℤ (pos (number_at text))))) (sym after) (negative_prefix text begins is.1)),
 )
-numeral_prefix false c rest new n digit is after = (
-  λ joined no. subst (λ n. IsTokenTo joined (c ∷ rest) (Int n) new) (sym (read_back n (subst IsInteger (sym is.0) is.1) ∙ is.0))
-      (subst (IsTokenTo joined (c ∷ rest) (Int (pos (decimal_value (first_digits (c ∷ rest)))))) (sym after) (number_prefix joined c rest digit is.1)),
+numeral_prefix false text new n begins is after = (
+  λ joined no. subst (λ n. IsTokenTo joined text (Int n) new) (sym (read_back n (subst IsInteger (sym is.0) is.1) ∙ is.0))
+      (subst (IsTokenTo joined text (Int (pos (number_at text)))) (sym after) (number_prefix joined text begins is.1)),
   λ yes. absurd (true≢false (sym yes)),
 )
 
@@ -138,15 +132,17 @@ pub small_number : (joined : Bool) (text : List ℕ) (c : ℕ) (rest new : List 
     → IsTokenTo joined text (Int (to_z w128 (of_z w128 n))) new
 small_number joined text c rest new m n at digit value after small is =
     let fits : IsInteger (pos m) = omega (arith, ints) in
-    let number = numeral_prefix false c rest new n digit
-    (is ∙ ap pos value, subst (λ m. IsInteger (pos m)) value fits) after in
+    let is_decimal = decimal_at c rest digit in
+    let same = value ∙ is_decimal.0 in
+    let number = numeral_prefix false (c ∷ rest) new n (digit_begins c rest digit)
+    (is ∙ ap pos same, subst (λ m. IsInteger (pos m)) same fits) (after ∙ is_decimal.1) in
     subst (λ text. IsTokenTo joined text (Int (to_z w128 (of_z w128 n))) new) (sym at)
     (number.0 joined refl)
 
-pub numeral_fault : (negative : Bool) (at c : ℕ) (rest : List ℕ) → is_ascii_digit c ≡ true → (IsInteger (with_sign negative (decimal_value (first_digits (c ∷ rest)))) → ⊥)
-    → ((joined : Bool) → negative ≡ false → IsErrorHere joined at (c ∷ rest) (TooWide at)) × (negative ≡ true → IsErrorHere false at (45 ∷ c ∷ rest) (TooWide at))
-numeral_fault true at c rest digit wide = (λ joined no. absurd (true≢false no), λ yes. inr (negative_fault at c rest digit wide))
-numeral_fault false at c rest digit wide = (λ joined no. inr (number_fault joined at c rest digit wide), λ yes. absurd (true≢false (sym yes)))
+pub numeral_fault : (negative : Bool) (at : ℕ) (text : List ℕ) → begins_number text ≡ true → (IsInteger (with_sign negative (number_at text)) → ⊥)
+    → ((joined : Bool) → negative ≡ false → IsErrorHere joined at text (TooWide at)) × (negative ≡ true → IsErrorHere false at (45 ∷ text) (TooWide at))
+numeral_fault true at text begins wide = (λ joined no. absurd (true≢false no), λ yes. inr (negative_fault at text begins wide))
+numeral_fault false at text begins wide = (λ joined no. inr (number_fault joined at text begins wide), λ yes. absurd (true≢false (sym yes)))
 
 -- an atom stands after its backquote
 pub atom_token : (joined : Bool) (text word new : List ℕ) → IsWordTo text word new
@@ -186,6 +182,7 @@ no_backquote sign.GreaterEqual rest = refl
 no_backquote sign.AndAnd rest = refl
 no_backquote sign.OrOr rest = refl
 no_backquote sign.Semicolons rest = refl
+no_backquote sign.SlashAt rest = refl
 no_backquote sign.OpenParenthesis rest = refl
 no_backquote sign.CloseParenthesis rest = refl
 no_backquote sign.OpenBracket rest = refl
@@ -205,12 +202,13 @@ no_backquote sign.And rest = refl
 no_backquote sign.Comma rest = refl
 no_backquote sign.Semicolon rest = refl
 no_backquote sign.Dot rest = refl
+no_backquote sign.Slash rest = refl
 no_backquote sign.Splice rest = refl
 no_backquote sign.At rest = refl
 
 -- the word at the start is the only one that may stand there; where an atom has none, its backquote begins nothing
 pub lone_backquote : (joined : Bool) (at : ℕ) (text : List ℕ) → (IsLabel (first_word text) → ⊥) → HasFaultHere joined at (96 ∷ text) (BadChar at)
-lone_backquote joined at text unlike = breaks_character 96 text refl
+lone_backquote joined at text unlike = breaks_character 96 text refl refl
     (λ is begins. true≢false (ap begins_backquote begins.1 ∙ no_backquote is begins.0))
     (λ name rest is label ends.
     let parted : text ≡ name ++ rest = ap (drop 1) is in

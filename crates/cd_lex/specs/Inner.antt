@@ -2,6 +2,7 @@
 pub mod Quoted
 pub mod Standing
 pub mod Number
+pub mod Numerals
 pub mod Commenting
 pub mod Quoting
 pub mod SignTable

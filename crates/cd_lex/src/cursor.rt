@@ -1,7 +1,8 @@
-ghost use Rattle.std.specs.Prelude.{◌≡◌, ◌<◌, ◌∷◌, [], true, MatchOption, MatchBool, take_while};
+ghost use Rattle.std.specs.Prelude.{◌≡◌, ◌<◌, ◌∷◌, [], true, false, MatchOption, MatchBool};
+ghost use Rattle.std.specs.Prelude.{take_while};
 ghost use Rattle.std.specs.Str.{chars};
 ghost use Rattle.std.specs.Char.{is_ascii_digit};
-ghost use Rattle.cd_syntax.specs.Digits.{BeginsWithNoDigit};
+ghost use Rattle.cd_syntax.specs.Digits.{BeginsWithNoDigit, begins_hexadecimal, goes_on_number};
 ghost use Rattle.cd_syntax.specs.Tokens.{bytes as bytes_of};
 ghost use Rattle.cd_lex.specs.Inner.Prefixes.{BeginsWithOther, after};
 ghost use Rattle.cd_lex.specs.Inner.Runs.{belongs, HasAsciiQuote, EndsRun};
@@ -83,6 +84,32 @@ impl<'t> Cursor<'t> {
         match found {
             Some(c) if c.is_ascii_digit() => {
                 self.rest = rest;
+                Some(c)
+            }
+            _ => None,
+        }
+    }
+
+    /// Whether a hexadecimal digit is the next character.
+    pub(crate) fn has_hexadecimal(&self) -> bool
+        ensures { result ≡ begins_hexadecimal self.now }
+    {
+        match self.again().take() {
+            Some(c) => c.is_ascii_hexdigit(),
+            None => false,
+        }
+    }
+
+    /// The next character, which is taken off, if a hexadecimal number goes on with it after a
+    /// digit: a digit, or a `_` that stands before one.
+    pub(crate) fn take_hexadecimal(&mut self) -> Option<char>
+        ensures { MatchOption result ((self.new ≡ self.old) × (goes_on_number self.old ≡ false))
+            (λ c. (self.old ≡ c ∷ self.new) × (goes_on_number (c ∷ self.new) ≡ true)) }
+    {
+        let mut ahead = self.again();
+        match ahead.take() {
+            Some(c) if c.is_ascii_hexdigit() || (c == '_' && ahead.has_hexadecimal()) => {
+                self.rest = ahead.rest;
                 Some(c)
             }
             _ => None,

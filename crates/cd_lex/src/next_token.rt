@@ -16,9 +16,9 @@ use crate::signs::{closes, take_sign};
 use crate::word::begins_word;
 use cd_syntax::tokens::Span;
 
-/// Takes the next token off a text, and the blanks before it, if it is a word, a number of few
-/// digits, a text without escapes, or a sign that begins with no `-`. The text ends at this byte.
-/// All that it uses is inlined, so that most tokens are read without a call.
+/// Takes the next token off a text, and the blanks before it, if it is a word, a decimal number of
+/// few digits, a text without escapes, or a sign that begins with no `-`. The text ends at this
+/// byte. All that it uses is inlined, so that most tokens are read without a call.
 #[inline(always)]
 pub(crate) fn read_simple<'t>(
     cursor: &mut Cursor<'t>,
@@ -73,8 +73,8 @@ pub(crate) fn read_lexeme<'t>(
     }
 }
 
-// Takes the word, the sign, the number or the text at the start off, but no sign that begins with
-// `-`, no number of many digits, and no text with an escape.
+// Takes the word, the sign, the decimal number or the text at the start off, but no sign that
+// begins with `-`, no number of many digits, and no text with an escape.
 #[inline(always)]
 fn take_simple<'t>(cursor: &mut Cursor<'t>, buffer: &mut Buffer<'t>) -> Option<Kind>
     ensures { MatchOption result ((cursor.new ≡ cursor.old) × BeginsWithNoWord cursor.old

@@ -1,8 +1,8 @@
 ghost use Rattle.std.specs.Prelude.{◌≡◌, ◌≤◌, ◌-◌, ◌⊎◌, ◌∷◌, ℕ, Bool, true, false, List};
 ghost use Rattle.std.specs.Prelude.{IfOk, IfErr};
-ghost use Rattle.std.specs.Char.{is_ascii_digit};
 ghost use Rattle.cd_syntax.specs.Name.{begins_word};
 ghost use Rattle.cd_syntax.specs.Tokens.{is_blank, bytes as bytes_of};
+ghost use Rattle.cd_syntax.specs.Numerals.{begins_number as begins_number_of};
 ghost use Rattle.cd_syntax.specs.Faults.{is_other};
 ghost use Rattle.cd_lex.specs.Inner.Standing.{BeginsWithNoSign, Stands, IsErrorHere};
 ghost use Rattle.cd_lex.specs.declared.lexer.Kind.TheVariants.{Text, Chars};
@@ -11,7 +11,7 @@ use crate::buffer::Buffer;
 use crate::comment::close_comment;
 use crate::cursor::Cursor;
 use crate::lexer::Kind;
-use crate::number::read_number;
+use crate::number::{begins_number, read_number};
 use crate::quoted::{Quoted, read_quoted};
 use crate::signs::after_minus;
 use crate::word::{is_underscore, take_word};
@@ -49,7 +49,7 @@ pub(crate) fn prefix<'t>(
     ensures fault { IfErr result (λ error. IsErrorHere joined at (c ∷ cursor.old) error) }
 {
     match c {
-        _ if c.is_ascii_digit() => number(cursor, false, c, at),
+        _ if begins_number(cursor, c) => number(cursor, false, c, at),
         '"' | '\'' => quoted(cursor, buffer, c, at, end),
         '`' => atom(cursor, buffer, at),
         '(' => parenthesis(cursor, at),
@@ -58,9 +58,9 @@ pub(crate) fn prefix<'t>(
     }
 }
 
-// The number that begins with this digit, after a `-` or without one.
+// The number that begins with this character, after a `-` or without one.
 fn number(cursor: &mut Cursor<'_>, negative: bool, c: char, at: usize) -> Result<Piece, LexError>
-    requires { is_ascii_digit c ≡ true }
+    requires { begins_number_of (c ∷ cursor.old) ≡ true }
     ensures piece { IfOk result (λ piece. (characters : List ℕ)
         → ((joined : Bool) → negative ≡ false
         → Stands joined (c ∷ cursor.old) piece cursor.new characters)
@@ -150,15 +150,20 @@ fn minus(cursor: &mut Cursor<'_>, joined: bool, at: usize) -> Result<Piece, LexE
     if joined {
         return Ok(Piece::Token(Kind::Sign(after_minus(cursor))));
     }
-    match cursor.take_digit() {
-        Some(c) => number(cursor, true, c, at),
-        None => Ok(Piece::Token(Kind::Sign(after_minus(cursor)))),
+    let mut ahead = cursor.again();
+    match ahead.take() {
+        Some(c) if begins_number(&ahead, c) => {
+            *cursor = ahead;
+            number(cursor, true, c, at)
+        }
+        _ => Ok(Piece::Token(Kind::Sign(after_minus(cursor)))),
     }
 }
 
 // The fault of a character that begins no token.
 fn no_token(cursor: &Cursor<'_>, c: char, at: usize) -> LexError
     requires other { is_other c ≡ true }
+    requires number { begins_number_of (c ∷ cursor.now) ≡ false }
     requires backquote { c ≡ 96 → ⊥ }
     requires parenthesis { c ≡ 40 → ⊥ }
     requires minus { c ≡ 45 → ⊥ }

@@ -64,6 +64,7 @@ fn read_sign(cursor: &mut Cursor<'_>, first: char) -> Option<Sign>
         '|' => either(cursor, '|', Sign::OrOr, Sign::Or),
         ';' => either(cursor, ';', Sign::Semicolons, Sign::Semicolon),
         '.' => either(cursor, '.', Sign::Dots, Sign::Dot),
+        '/' => either(cursor, '@', Sign::SlashAt, Sign::Slash),
         '*' => after_star(cursor),
         ':' => return after_colon(cursor),
         _ => return None,

@@ -3,7 +3,8 @@ use Rattle.std.proofs.Common.{◌≡◌, ℕ, ◌≤◌, ◌==◌, Bool, false, 
 use Rattle.std.specs.List.{list_any}
 use Rattle.cd_syntax.specs.Signs.{characters}
 use Rattle.cd_syntax.specs.Comments.{begins_pair}
-use Rattle.cd_syntax.specs.Tokens.{IsLexemeOf, begins_negative}
+use Rattle.cd_syntax.specs.Numerals.{begins_negative}
+use Rattle.cd_syntax.specs.Tokens.{IsLexemeOf}
 use Rattle.cd_syntax.specs.Tokens as tokens
 use Rattle.cd_syntax.specs.declared.sign.Sign.{Sign as ASign}
 use Rattle.cd_syntax.specs.declared.sign.Sign.TheVariants as sign
@@ -14,7 +15,7 @@ abbrev begins_long : List ℕ → Bool
 begins_long text =
     list_any (λ (pair : ℕ × ℕ). begins_pair pair.0 pair.1 text)
     ((42, 45) ∷ (45, 45) ∷ (42, 63) ∷ (43, 63) ∷ (63, 63) ∷ (61, 63) ∷ (45, 62) ∷ (58, 58) ∷ (58, 61) ∷ (46, 46)
-    ∷ (33, 61) ∷ (60, 61) ∷ (62, 61) ∷ (38, 38) ∷ (124, 124) ∷ (59, 59) ∷ [])
+    ∷ (33, 61) ∷ (60, 61) ∷ (62, 61) ∷ (38, 38) ∷ (124, 124) ∷ (59, 59) ∷ (47, 64) ∷ [])
 
 no_longer : (other : ASign) (rest : List ℕ) → begins_long (characters other ++ rest) ≡ false → length (characters other) ≤ 1
 no_longer sign.StarTo rest not = absurd (true≢false not)
@@ -34,6 +35,7 @@ no_longer sign.GreaterEqual rest not = absurd (true≢false not)
 no_longer sign.AndAnd rest not = absurd (true≢false not)
 no_longer sign.OrOr rest not = absurd (true≢false not)
 no_longer sign.Semicolons rest not = absurd (true≢false not)
+no_longer sign.SlashAt rest not = absurd (true≢false not)
 no_longer sign.OpenParenthesis rest not = omega arith
 no_longer sign.CloseParenthesis rest not = omega arith
 no_longer sign.OpenBracket rest not = omega arith
@@ -53,6 +55,7 @@ no_longer sign.And rest not = omega arith
 no_longer sign.Comma rest not = omega arith
 no_longer sign.Semicolon rest not = omega arith
 no_longer sign.Dot rest not = omega arith
+no_longer sign.Slash rest not = omega arith
 no_longer sign.Splice rest not = omega arith
 no_longer sign.At rest not = omega arith
 

@@ -8,9 +8,11 @@ use Rattle.std.specs.Int.{is_in_range}
 use Rattle.std.proofs.lemmas.Int.{ints}
 use Rattle.std.proofs.lemmas.Bool.{and_parts}
 use Rattle.std.proofs.lemmas.Bool.Decides.{nat_tests}
-use Rattle.cd_syntax.specs.Digits.{AreDigits, BeginsWithNoDigit}
+use Rattle.cd_syntax.specs.Digits.{AreDigits, BeginsWithNoDigit, decimal_value}
 use Rattle.cd_syntax.specs.Integer.{IsInteger}
 use Rattle.cd_syntax.specs.Name.{Name, IsLabel}
+use Rattle.cd_syntax.specs.Numerals as numerals
+use Rattle.cd_syntax.specs.Numerals.{IsNumeral}
 use Rattle.cd_syntax.specs.Quotes as quotes
 use Rattle.cd_syntax.specs.Tokens as tokens
 use Rattle.cd_syntax.specs.Tokens.{EndsWord, IsLexemeOf}
@@ -37,6 +39,10 @@ no_digit (c ∷ rest) ends = by_test (is_in_range 48 57 c) refl (is_in_range 65 
     by_test : (digit : Bool) → is_in_range 48 57 c ≡ digit → (upper lower line : Bool) → (((digit || upper) || lower) || line) ≡ false → is_ascii_digit c ≡ false
     by_test true test upper lower line not = absurd (true≢false not)
     by_test false test upper lower line not = test
+
+-- a number in decimal digits, before what ends a word
+numeral : (n : ℕ) → n < 10 ^ 64 → (rest : List ℕ) → EndsWord rest → IsNumeral (decimal n) rest (decimal_value (decimal n))
+numeral n small rest ends = numerals.decimal (decimal n) rest (are_digits n small) (no_digit rest ends)
 
 module _ (fact : List Token → Type 0) where
   -- one token is the text
@@ -65,7 +71,7 @@ module _ (depth : ℕ) where
       one_token (λ tokens. IsDocument depth tokens (Integer (pos n))) (token.Int (pos n)) (decimal n)
       (first_digit (decimal n) (are_digits n small))
       (λ rest ends. subst (λ m. IsLexemeOf false (decimal n) rest (token.Int (pos m))) value
-      (tokens.number (decimal n) rest (are_digits n small) (no_digit rest ends) (subst (λ m. IsInteger (pos m)) (sym value) is)))
+      (tokens.number (decimal n) rest (decimal_value (decimal n)) (numeral n small rest ends) (subst (λ m. IsInteger (pos m)) (sym value) is)))
       refl (λ span. document.number depth (pos n) span)
   integer_back (negsuc n) is =
       let small : suc n < 10 ^ 64 = omega (arith, ints) in
@@ -73,7 +79,7 @@ module _ (depth : ℕ) where
       one_token (λ tokens. IsDocument depth tokens (Integer (negsuc n))) (token.Int (negsuc n)) (45 ∷ decimal (suc n))
       (λ rest. record { no_equal = refl; no_question = refl; no_star = refl })
       (λ rest ends. subst (λ m. IsLexemeOf false (45 ∷ decimal (suc n)) rest (token.Int (neg_ℤ (pos m)))) value
-      (tokens.negative (decimal (suc n)) rest refl (are_digits (suc n) small) (no_digit rest ends) (subst (λ m. IsInteger (neg_ℤ (pos m))) (sym value) is)))
+      (tokens.negative (decimal (suc n)) rest (decimal_value (decimal (suc n))) refl (numeral (suc n) small rest ends) (subst (λ m. IsInteger (neg_ℤ (pos m))) (sym value) is)))
       refl (λ span. document.number depth (negsuc n) span)
 
   pub character_back : (c : ℕ) → IsScalar c → PrintedAs (single_quoted (c ∷ [])) (λ tokens. IsDocument depth tokens (Character c))

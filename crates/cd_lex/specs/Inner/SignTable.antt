@@ -12,12 +12,13 @@ signs = sign.StarTo ∷ sign.ToStar
     ∷ sign.StarQuestion ∷ sign.PlusQuestion ∷ sign.QuestionQuestion ∷ sign.EqualQuestion ∷ sign.To
     ∷ sign.Arrow ∷ sign.ColonColon ∷ sign.Becomes
     ∷ sign.Dots ∷ sign.NotEqual ∷ sign.LessEqual ∷ sign.GreaterEqual ∷ sign.AndAnd ∷ sign.OrOr
-    ∷ sign.Semicolons
+    ∷ sign.Semicolons ∷ sign.SlashAt
     ∷ sign.OpenParenthesis ∷ sign.CloseParenthesis ∷ sign.OpenBracket ∷ sign.CloseBracket
     ∷ sign.OpenBrace ∷ sign.CloseBrace
     ∷ sign.Less ∷ sign.Greater ∷ sign.Equal ∷ sign.Question ∷ sign.Star ∷ sign.Plus ∷ sign.Minus
     ∷ sign.Backslash
-    ∷ sign.Or ∷ sign.And ∷ sign.Comma ∷ sign.Semicolon ∷ sign.Dot ∷ sign.Splice ∷ sign.At ∷ []
+    ∷ sign.Or ∷ sign.And ∷ sign.Comma ∷ sign.Semicolon ∷ sign.Dot ∷ sign.Slash ∷ sign.Splice
+    ∷ sign.At ∷ []
 
 -- whether the text begins with the sign
 abbrev pub begins_with : List ℕ → Sign → Bool

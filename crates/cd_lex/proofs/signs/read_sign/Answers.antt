@@ -41,3 +41,6 @@ returns-in-59 c = either_stands _ _ _ _ _ _ _ _ sign.semicolon c.in-59.is c.eith
 
 pub returns-in-46 : goal.returns-in-46
 returns-in-46 c = either_stands _ _ _ _ _ _ _ _ sign.dot c.in-46.is c.either-sign-in-46.ensures
+
+pub returns-in-47 : goal.returns-in-47
+returns-in-47 c = either_stands _ _ _ _ _ _ _ _ sign.slash c.in-47.is c.either-sign-in-47.ensures
