@@ -4,14 +4,15 @@ import re
 from ebnf import Choice, Name, Reader, Repeat, Row, Token, words
 
 KINDS = ["Int", "Char1", "CharN", "Text", "Atom", "TypeName", "Variable"]
-OPENERS = ["(", "[", "{", "<", "->", "::", "if", "let", "match", "try", "map", "transform", "fun"]
+OPENERS = ["(", "[", "{", "<", "->", "::", "if", "let", "match", "try", "map", "transform", "fun",
+           "/", "/@"]
 KEYWORDS = ("type let fun in match with if then else try map transform where and div mod not flatten int_of string_of "
-            "raise").split()
+            "min_of max_of raise select from").split()
 STARTS = {"TypeText": "Tree", "TypeFile": "File", "ProgramText": "Program"}
 
 # How the page notes the forms of patterns, and the rules of programs in which a Union is one of patterns.
 MARK = "(pat)"
-OF_PATTERNS = ["Rest", "Expr", "Body"]
+OF_PATTERNS = ["Rest", "Expr", "Body", "Sources"]
 
 # What the page says in words beside the grammar: the rules that change, and those in their place. Characters are one in
 # a type, a constant and an expression, and any number in a group and as an item. Parentheses in a sequence are a type
@@ -26,7 +27,7 @@ IN_WORDS = {
     "Programs": {
         "Function": '"(" Sig { ";" Sig } ")" Branches',
         "Rest": 'Union "->" Expr | Union "->" Body "|" Rest',
-        "App": '( "not" | "flatten" | "int_of" | "string_of" | "raise" ) Post | Post { Post }',
+        "App": '( "not" | "flatten" | "int_of" | "string_of" | "min_of" | "max_of" | "raise" ) Post | Post { Post }',
         "Item": 'Chars | "!" Post | Post',
     },
 }
@@ -39,10 +40,10 @@ IN_RULES = {
     "Programs": {
         "Function": '( "(" Sig { ";" Sig } ")" ) Branches',
         "Rest": 'Union "->" Expr | ( Union "->" Body ) "|" Rest',
-        "App": '( "not" | "flatten" | "int_of" | "string_of" | "raise" ) Post | Post { NPost }',
-        "NPost": 'NBase { "." Label }',
+        "App": '( "not" | "flatten" | "int_of" | "string_of" | "min_of" | "max_of" | "raise" ) Post | Post { NPost }',
+        "NPost": 'NBase [ Steps ]',
         "Item": 'Char1 | CharN | "!" Post | CPost',
-        "CPost": 'CBase { "." Label }',
+        "CPost": 'CBase [ Steps ]',
     },
 }
 OF_WORDS = {
@@ -50,7 +51,7 @@ OF_WORDS = {
     "Label": " | ".join(["TypeName", "Variable"] + [f'"{word}"' for word in KEYWORDS]),
 }
 
-# the rules in which no token opens a level: comparisons, and keywords as labels
+# the rules in which no token opens a level: comparisons, and keywords as labels; an `in` opens one in a select alone
 FLAT = ["Cmp", "Label"]
 
 
@@ -93,7 +94,8 @@ def block(page, title, patterns):
 
 def rule(name, text):
     """What a rule says."""
-    return Reader(text, KINDS, [] if name in FLAT else OPENERS).whole()
+    more = ["in"] if name == "Sources" else []
+    return Reader(text, KINDS, [] if name in FLAT else OPENERS + more).whole()
 
 
 def of_patterns(part, trees):

@@ -14,7 +14,7 @@ use Rattle.cd_grammar.specs.declared.goal.Goal.TheVariants as goal
 use Rattle.cd_grammar.specs.Parts.{Part, ATree, AFile}
 use Rattle.cd_grammar.specs.Language.{Entry, Placed, IsTree, AreDeclared}
 use Rattle.cd_grammar.specs.Forms.{AType, SomeDeclarations}
-use Rattle.cd_grammar.specs.Examples.{Example, IsExample, AreExamples, group_tokens, group_tree, tuple_tokens, tuple_tree, arrows_tokens, arrows_tree, record_tokens, record_tree, where_tokens, where_tree, signs_tokens, signs_tree, characters_tokens, characters_tree, at_most_tokens, at_most_tree, at_least_tokens, at_least_tree, argument_tokens, argument_tree, sequence_tokens, sequence_tree, union_tokens, union_tree, group_sequence_tokens, group_sequence_tree, arrow_item_tokens, arrow_item_tree, xml_tokens, xml_tree, any_xml_tokens, any_xml_tree, alternative_tokens, alternative_tree, mixed_tokens, mixed_tree, nested_tokens, nested_tree, typed_xml_tokens, typed_xml_tree, keyword_tokens, keyword_tree, arrow_tokens, attributes_tokens, content_tokens, group_front, declared_tokens, declared_declarations, declared_alone_tokens, declared_alone_declarations, constant_texts, chain_texts, record_texts, xml_texts, keyword_texts, sequence_texts, item_texts, group_texts, longer_texts, comma_after_group, and_after_group, and_after_letters, two_postfixes, no_semicolon, no_label, union_of_attribute, two_letters, no_part, keyword_alone, label_alone, two_types, where_again, no_keyword, no_type_name, semicolons_again, begun_arrow, begun_declaration}
+use Rattle.cd_grammar.specs.Examples.{Example, IsExample, AreExamples, group_tokens, group_tree, tuple_tokens, tuple_tree, arrows_tokens, arrows_tree, record_tokens, record_tree, where_tokens, where_tree, signs_tokens, signs_tree, characters_tokens, characters_tree, at_most_tokens, at_most_tree, at_least_tokens, at_least_tree, argument_tokens, argument_tree, sequence_tokens, sequence_tree, union_tokens, union_tree, group_sequence_tokens, group_sequence_tree, arrow_item_tokens, arrow_item_tree, xml_tokens, xml_tree, any_xml_tokens, any_xml_tree, alternative_tokens, alternative_tree, mixed_tokens, mixed_tree, nested_tokens, nested_tree, typed_xml_tokens, typed_xml_tree, keyword_tokens, keyword_tree, arrow_tokens, attributes_tokens, content_tokens, group_front, declared_tokens, declared_declarations, declared_alone_tokens, declared_alone_declarations, constant_texts, chain_texts, record_texts, xml_texts, keyword_texts, sequence_texts, item_texts, group_texts, longer_texts, comma_after_group, and_after_group, and_after_letters, two_postfixes, no_semicolon, no_label, semicolon_after_others, others_again, union_of_attribute, two_letters, no_part, keyword_alone, label_alone, two_types, where_again, no_keyword, no_type_name, semicolons_again, begun_arrow, begun_declaration}
 use Rattle.cd_grammar.proofs.Runs.{steps, ending, made, written, not_written, wrong_at, begun_only}
 
 writes : (depth : ℕ) (tokens : List Token) (is : Tree) → made (ending goal.TypeText depth steps tokens) ≡ Some (ATree is)
@@ -268,9 +268,17 @@ pub no_semicolon_is_wrong : IsWrong AType 1000 no_semicolon 4
 unfolding row_of
 no_semicolon_is_wrong = wrong_at goal.TypeText 1000 no_semicolon ATree 4 refl refl
 
-pub no_label_is_wrong : IsWrong AType 1000 no_label 1
+pub no_label_is_wrong : IsWrong AType 1000 no_label 2
 unfolding row_of
-no_label_is_wrong = wrong_at goal.TypeText 1000 no_label ATree 1 refl refl
+no_label_is_wrong = wrong_at goal.TypeText 1000 no_label ATree 2 refl refl
+
+pub semicolon_after_others_is_wrong : IsWrong AType 1000 semicolon_after_others 4
+unfolding row_of
+semicolon_after_others_is_wrong = wrong_at goal.TypeText 1000 semicolon_after_others ATree 4 refl refl
+
+pub others_again_is_wrong : IsWrong AType 1000 others_again 2
+unfolding row_of
+others_again_is_wrong = wrong_at goal.TypeText 1000 others_again ATree 2 refl refl
 
 pub union_of_attribute_is_wrong : IsWrong AType 1000 union_of_attribute 5
 unfolding row_of

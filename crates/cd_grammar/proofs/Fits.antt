@@ -21,5 +21,5 @@ rows_full = refl
 pub weights_do : weights_fit tables ≡ true
 weights_do = refl
 
-pub goals_do : goals_fit tables 67 1 ≡ true
+pub goals_do : goals_fit tables 73 1 ≡ true
 goals_do = refl

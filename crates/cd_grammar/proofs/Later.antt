@@ -98,7 +98,7 @@ goes_on goal depth tokens (later, part, whole) =
     )
 
 -- entries that are free and no goals may come
-pub are_later : (entries : List Entry) → AreFree cduce_grammar entries → ArePlain kind_of 67 entries
+pub are_later : (entries : List Entry) → AreFree cduce_grammar entries → ArePlain kind_of 73 entries
     → (tokens : List Token) × (entries ≡ map Later tokens)
 are_later [] free plain = ([], refl)
 are_later (To goal.TypeText ∷ entries) free plain = absurd (let small = plain.0 in omega (arith, small))
@@ -109,7 +109,7 @@ are_later (Later one ∷ entries) free plain =
     let rest = are_later entries free.1 plain.1 in
     (one ∷ rest.0, ap (λ all. Later one ∷ all) rest.1)
 
-plain_after : (first later : List Entry) → ArePlain kind_of 67 (first ++ later) → ArePlain kind_of 67 later
+plain_after : (first later : List Entry) → ArePlain kind_of 73 (first ++ later) → ArePlain kind_of 73 later
 plain_after [] later plain = plain
 plain_after (one ∷ first) later plain = plain_after first later plain.1
 
@@ -119,10 +119,10 @@ pub by_tokens : (goal : Goal) (depth : ℕ) (tokens : List Token) (entries : Lis
     → Begins goal depth tokens
 by_tokens goal depth tokens entries part free whole =
     let (first, rest, same, is_goal, plain) =
-    goal_first tables 67 1 goals_do kind_of value_of is_free build depth (To goal ∷ map Read tokens ++ entries) part
+    goal_first tables 73 1 goals_do kind_of value_of is_free build depth (To goal ∷ map Read tokens ++ entries) part
     whole in
     let after : map Read tokens ++ entries ≡ rest = cc in
-    let all_plain = subst (ArePlain kind_of 67) (sym after) plain in
+    let all_plain = subst (ArePlain kind_of 73) (sym after) plain in
     let found = are_later entries free (plain_after (map Read tokens) entries all_plain) in (
       found.0,
       part,

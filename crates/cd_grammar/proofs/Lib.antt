@@ -9,6 +9,7 @@ mod SortsOfMakes
 mod SortedParts
 mod SortsInSorts
 mod SortedOnes
+mod SortedQueries
 mod SortedTwos
 mod SortedThrees
 mod SortedMakes
@@ -35,5 +36,6 @@ mod Examples
 mod ProgramRuns
 mod PatternTexts
 mod ExprTexts
+mod QueryTexts
 mod ProgramTexts
 mod ProgramFaults

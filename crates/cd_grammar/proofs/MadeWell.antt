@@ -17,7 +17,7 @@ use Rattle.cd_grammar.proofs.SpelledTokens.{tokens_are_proper}
 use Rattle.cd_grammar.proofs.WellMadeFacts.{well_made}
 use Rattle.cd_grammar.proofs.WellMadeTypes.{types_kept, declarations_made}
 use Rattle.cd_grammar.proofs.WellMadePatterns.{pattern_trees_kept, patterns_kept}
-use Rattle.cd_grammar.proofs.WellMadeExprs.{exprs_kept, functions_made}
+use Rattle.cd_grammar.proofs.WellMadeExprs.{exprs_kept, hidden_kept, functions_made}
 
 -- rules keep it
 each_kept : (pattern : Bool) → TreesAreKept well_made pattern
@@ -29,6 +29,7 @@ well_made_kept = record {
   trees_kept = each_kept;
   patterns_kept = patterns_kept;
   exprs_kept = exprs_kept;
+  hidden_kept = hidden_kept;
   file = declarations_made;
 }
 

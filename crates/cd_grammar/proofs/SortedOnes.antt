@@ -1,11 +1,11 @@
 -- What is made of one part of its sort is of its own sort, and the facts hold of it.
-use Rattle.std.proofs.Common.{◌≡◌, sym, subst, ℕ, Bool, true, List, [], ◌∷◌, map, Option, Some, None}
+use Rattle.std.proofs.Common.{◌≡◌, sym, subst, ℕ, Bool, List, [], ◌∷◌, map, Option, Some, None}
 use Rattle.std.specs.List.{AllByRecursion as AllOf}
 use Rattle.cd_syntax.specs.declared.tokens.Span.{Span}
 use Rattle.cd_syntax.specs.declared.builtin.BuiltinName.{BuiltinName}
 use Rattle.cd_syntax.specs.declared.constant.Constant.{Constant}
 use Rattle.cd_syntax.specs.Name.{Name}
-use Rattle.cd_syntax.specs.TypeTree.{Tree, tree, regular}
+use Rattle.cd_syntax.specs.TypeTree.{Tree, tree, regular, Open}
 use Rattle.cd_program.specs.Expr.{expr, Constant as a_constant}
 use Rattle.cd_tables.specs.Rows.{row_of}
 use Rattle.cd_tables.specs.Words.{type_names}
@@ -78,8 +78,9 @@ module _ (facts : Facts) (kept : AreKept facts) where
       one_tree _ (name_fits p here (name_in is.kind) (row_of type_names (name_in is.kind)))
   one_fits p own one.Any here part is = one_tree _ ((trees_kept p).built_in here _)
   one_fits p own one.Label here _ (one_label is so) = one_tree _ ((trees_kept p).atom here _ so)
-  one_fits p own one.Others here part is = some_fields [] true tt
-  one_fits p own one.Attributes here _ (some_fields all more are) = one_tree _ ((trees_kept p).fields here all more are)
+  one_fits p own one.Others here part is = some_fields [] Open tt tt
+  one_fits p own one.Attributes here _ (some_fields all others are so) =
+      one_tree _ ((trees_kept p).fields here all others are so)
   one_fits p own one.Item here _ (one_tree is so) = one_regular _ (item_fits p is so)
   one_fits p own one.Run here _ (one_token is) = one_regular _ (letters_fit p here (characters_in is.kind))
   one_fits p own one.Alternatives here _ (some_regulars first second rest are) =

@@ -11,19 +11,21 @@ use Rattle.cd_syntax.specs.declared.constant.Constant.TheVariants as constants
 use Rattle.cd_syntax.specs.Name.{Name}
 use Rattle.cd_syntax.specs.Tokens.{at}
 use Rattle.cd_syntax.specs.TypeTree as trees
-use Rattle.cd_syntax.specs.TypeTree.{Tree, tree, Signed, Field, Declaration, Declarations, Regular, regular}
+use Rattle.cd_syntax.specs.TypeTree.{Tree, tree, Signed, Field, Declaration, Declarations, Regular, regular, Rest}
 use Rattle.cd_program.specs.declared.operator.BuiltIn.{BuiltIn}
 use Rattle.cd_program.specs.declared.operator.Form.{Form}
 use Rattle.cd_program.specs.Expr as exprs
 use Rattle.cd_program.specs.Expr.{Expr, expr, Item, Tail, Branch, Signature, FunctionTree, function, of_form}
+use Rattle.cd_query.specs.Core as queries
+use Rattle.cd_query.specs.Core.{Step, Source}
 use Rattle.cd_grammar.specs.Parts.{Part, AToken, ATree, Trees, Signs, SomeFields, Names, AFile, ARegular, Regulars}
 use Rattle.cd_grammar.specs.Parts.{AMark, AConstant, AnExpr, Exprs, AChain, Items, ExprFields, Branches, Signatures}
-use Rattle.cd_grammar.specs.Parts.{AFunction, AProgram}
+use Rattle.cd_grammar.specs.Parts.{Steps, Sources, AFunction, AProgram}
 use Rattle.cd_grammar.specs.Actions.{name_in, constant_of}
 use Rattle.cd_grammar.proofs.Sorts.{Sort, OfTree, OfTrees, OfSigns, OfFields, OfNames, OfFile, OfRegular, OfRegulars}
 use Rattle.cd_grammar.proofs.Sorts.{OfMark, OfToken, OfLiteral, OfCharacter, OfAtom, OfLabel, OfAnything, OfConstant}
 use Rattle.cd_grammar.proofs.Sorts.{OfExpr, OfExprs, OfChain, OfItems, OfExprFields, OfBranches, OfSignatures}
-use Rattle.cd_grammar.proofs.Sorts.{OfFunction, OfProgram}
+use Rattle.cd_grammar.proofs.Sorts.{OfSteps, OfSources, OfFunction, OfProgram}
 
 pub joined : {A : Type 0} (fact : A → Type 0) (all more : List A) → AllOf fact all → AllOf fact more
     → AllOf fact (all ++ more)
@@ -57,11 +59,28 @@ OfTail E L (exprs.Operand op is) = E is
 OfTail E L (exprs.Without label) = L label
 OfTail E L (exprs.Select label) = L label
 
+abbrev pub OfRest : (Tree → Type 0) → Rest → Type 0
+OfRest T trees.Closed = Unit {0}
+OfRest T trees.Open = Unit {0}
+OfRest T (trees.Typed is) = T is
+
 abbrev pub OfBranch : (Tree → Type 0) → (Expr → Type 0) → Branch → Type 0
 OfBranch T E one = T one.pattern × E one.body
 
 abbrev pub OfSignature : (Tree → Type 0) → Signature → Type 0
 OfSignature T one = T one.takes × T one.gives
+
+abbrev pub OfStep : (Name → Type 0) → Step → Type 0
+OfStep L (queries.ToField word label) = L label
+OfStep L (queries.ToChild sign word label) = L label
+OfStep L (queries.ToAttribute sign word label) = L label
+
+abbrev pub OfSource : (Tree → Type 0) → (Expr → Type 0) → Source → Type 0
+OfSource T E one = T one.pattern × E one.value
+
+abbrev pub OfCondition : (Expr → Type 0) → Option Expr → Type 0
+OfCondition E None = Unit {0}
+OfCondition E (Some is) = E is
 
 -- facts of types and of patterns, of their expressions of sequences, of labels, variables and atoms' names, of files,
 -- of expressions, and of functions that are declared
@@ -93,8 +112,8 @@ module _ (facts : Facts) where
     pub meet : (here : Span) (first : Tree) (rest : List Signed) → T p first → AllOf (OfSign (T p)) rest
         → T p (tree here (trees.Meet first (trees.signs_of rest)))
     pub sequence : (here : Span) (is : Regular) → R p is → T p (tree here (trees.Sequence is))
-    pub fields : (here : Span) (all : List Field) (more : Bool) → AllOf (OfField (T p) L) all
-        → T p (tree here (trees.Record (trees.fields_of all) more))
+    pub fields : (here : Span) (all : List Field) (others : Rest) → AllOf (OfField (T p) L) all → OfRest (T p) others
+        → T p (tree here (trees.Record (trees.fields_of all) others))
     pub xml : (here : Span) (tag attributes content : Tree) → T p tag → T p attributes → T p content
         → T p (tree here (trees.Xml tag attributes content))
     pub where_names : (here : Span) (is : Tree) (all : List Declaration) → T p is → AllOf (OfName (T p)) all
@@ -150,10 +169,16 @@ module _ (facts : Facts) where
         → AllOf (OfBranch (T true) E) (first ∷ rest)
         → F (function word (Some name) name_at (arrow ∷ arrows) (exprs.branches_of (first ∷ rest)))
 
+  -- the names of variables that no text has
+  pub record HiddenAreKept : Type 0 where
+    pub content : L queries.content_name
+    pub child : L queries.child_name
+
   pub record AreKept : Type 0 where
     pub trees_kept : (p : Bool) → TreesAreKept p
     pub patterns_kept : PatternsAreKept
     pub exprs_kept : ExprsAreKept
+    pub hidden_kept : HiddenAreKept
     pub file : (all : List Declaration) → AllOf (OfName (T false)) all → D (trees.declarations_of all)
 
   -- a part is of a sort, and the facts hold of what is in it; rows have two members at least, and chains an operator
@@ -163,8 +188,8 @@ module _ (facts : Facts) where
         → Fits (OfTrees p) (Trees (first ∷ second ∷ rest))
     some_signs : {p : Bool} (first : Tree) (rest : List Signed) → T p first → AllOf (OfSign (T p)) rest
         → Fits (OfSigns p) (Signs first rest)
-    some_fields : {p : Bool} (all : List Field) (more : Bool) → AllOf (OfField (T p) L) all
-        → Fits (OfFields p) (SomeFields all more)
+    some_fields : {p : Bool} (all : List Field) (others : Rest) → AllOf (OfField (T p) L) all → OfRest (T p) others
+        → Fits (OfFields p) (SomeFields all others)
     some_names : {p : Bool} (all : List Declaration) → AllOf (OfName (T p)) all → Fits (OfNames p) (Names all)
     one_regular : {p : Bool} (is : Regular) → R p is → Fits (OfRegular p) (ARegular is)
     some_regulars : {p : Bool} (first second : Regular) (rest : List Regular) → AllOf (R p) (first ∷ second ∷ rest)
@@ -183,6 +208,9 @@ module _ (facts : Facts) where
         → Fits OfBranches (Branches (first ∷ rest))
     some_signatures : (first : Signature) (rest : List Signature) → AllOf (OfSignature (T false)) (first ∷ rest)
         → Fits OfSignatures (Signatures (first ∷ rest))
+    some_steps : (all : List Step) → AllOf (OfStep L) all → Fits OfSteps (Steps all)
+    some_sources : (all : List Source) (condition : Option Expr) → AllOf (OfSource (T true) E) all
+        → OfCondition E condition → Fits OfSources (Sources all condition)
     one_function : (is : FunctionTree) → F is → Fits OfFunction (AFunction is)
     one_program : (types : List Declaration) (functions : List FunctionTree) → AllOf (OfName (T false)) types
         → AllOf F functions → Fits OfProgram (AProgram types functions)

@@ -1,6 +1,7 @@
 -- What is made of three parts of their sorts is of its own sort, and the facts hold of it.
-use Rattle.std.proofs.Common.{Bool, true, false, [], ◌∷◌, ◌++◌, map}
+use Rattle.std.proofs.Common.{Bool, false, [], ◌∷◌, ◌++◌, map, None}
 use Rattle.cd_syntax.specs.declared.tokens.Span.{Span}
+use Rattle.cd_syntax.specs.TypeTree.{Closed, Typed}
 use Rattle.cd_grammar.specs.declared.make.Three.{Three}
 use Rattle.cd_grammar.specs.declared.make.Three.TheVariants as three
 use Rattle.cd_grammar.specs.Parts.{Part}
@@ -12,7 +13,7 @@ use Rattle.cd_grammar.proofs.SortedParts.{Facts, AreKept, joined, OfSign, OfFiel
 use Rattle.cd_grammar.proofs.SortedParts.{OfSignature, Fits, one_tree, some_trees, some_signs, some_fields, some_names}
 use Rattle.cd_grammar.proofs.SortedParts.{one_regular, some_regulars, one_expr, some_exprs, one_chain, some_items}
 use Rattle.cd_grammar.proofs.SortedParts.{some_expr_fields, some_branches, some_signatures, one_token, one_character}
-use Rattle.cd_grammar.proofs.SortedParts.{one_label}
+use Rattle.cd_grammar.proofs.SortedParts.{one_label, some_steps, some_sources}
 use Rattle.cd_grammar.proofs.SortedOnes.{item_fits, items_fit}
 
 module _ (facts : Facts) (kept : AreKept facts) where
@@ -46,12 +47,14 @@ module _ (facts : Facts) (kept : AreKept facts) where
   three_fit p own three.Where here _ b _ (one_tree is so) word (some_names all are) =
       one_tree _ ((trees_kept p).where_names here is all so are)
   three_fit p own (three.Field optional) here _ b _ (one_label word name) sign (one_tree is so) =
-      some_fields _ false ((name, so), tt)
-  three_fit p own three.SeparateFields here _ b _ (some_fields all more are) sign (some_fields rest others so) =
-      some_fields _ false (joined (OfField (T p) L) all rest are so)
-  three_fit p own three.SeparateOthers here _ b c (some_fields all more are) sign dots = some_fields all true are
-  three_fit p own three.Record here a _ c left (some_fields all more are) right =
-      one_tree _ ((trees_kept p).fields here all more are)
+      some_fields _ Closed ((name, so), tt) tt
+  three_fit p own three.SeparateFields here _ b _ (some_fields all none are it) sign (some_fields rest others so is) =
+      some_fields _ Closed (joined (OfField (T p) L) all rest are so) tt
+  three_fit p own three.SeparateOthers here _ b _ (some_fields all none are it) sign (some_fields rest others so is) =
+      some_fields all others are is
+  three_fit p own three.TypedOthers here a b _ line sign (one_tree is so) = some_fields [] (Typed is) tt so
+  three_fit p own three.Record here a _ c left (some_fields all others are so) right =
+      one_tree _ ((trees_kept p).fields here all others are so)
   three_fit p own three.Sequence here a _ c left (one_regular is so) right =
       one_tree _ ((trees_kept p).sequence here is so)
   -- expressions of sequences
@@ -93,10 +96,15 @@ module _ (facts : Facts) (kept : AreKept facts) where
       one_chain first _ [] is (so, tt)
   three_fit p own three.NextWithout here _ b _ (one_chain first next rest is are) sign (one_label word so) =
       one_chain first next _ is (joined (OfTail E L) (next ∷ rest) _ are (so, tt))
-  three_fit p own three.FirstSelect here _ b _ (one_expr first is) sign (one_label word so) =
-      one_chain first _ [] is (so, tt)
-  three_fit p own three.NextSelect here _ b _ (one_chain first next rest is are) sign (one_label word so) =
-      one_chain first next _ is (joined (OfTail E L) (next ∷ rest) _ are (so, tt))
+  -- steps and sources
+  three_fit p own three.BeforeFieldStep here a _ _ sign (one_label word so) (some_steps steps are) =
+      some_steps _ (so, are)
+  three_fit p own three.BeforeChildStep here _ _ _ (one_token sign) (one_label word so) (some_steps steps are) =
+      some_steps _ (so, are)
+  three_fit p own three.BeforeAttributeStep here _ _ _ (one_token sign) (one_label word so) (some_steps steps are) =
+      some_steps _ (so, are)
+  three_fit p own three.Source here _ b _ (one_tree pattern is) word (one_expr value so) =
+      some_sources _ None ((is, so), tt) tt
   -- expressions
   three_fit p own three.TwoExprs here _ b _ (one_expr first is) sign (one_expr second so) =
       some_exprs first second [] (is, (so, tt))

@@ -1,6 +1,7 @@
 -- What is made of two parts of their sorts is of its own sort, and the facts hold of it.
 use Rattle.std.proofs.Common.{Bool, true, false, [], ◌∷◌, ◌++◌}
 use Rattle.cd_syntax.specs.declared.tokens.Span.{Span}
+use Rattle.cd_syntax.specs.TypeTree.{Closed}
 use Rattle.cd_grammar.specs.declared.make.Two.{Two}
 use Rattle.cd_grammar.specs.declared.make.Two.TheVariants as two
 use Rattle.cd_grammar.specs.Parts.{Part}
@@ -10,8 +11,9 @@ use Rattle.cd_grammar.proofs.SortsOfMakes.{of_two}
 use Rattle.cd_grammar.proofs.SortedParts.{Facts, AreKept, joined, OfField, OfName, OfItem, OfExprField, OfBranch, Fits}
 use Rattle.cd_grammar.proofs.SortedParts.{one_tree, some_fields, some_names, one_regular, some_regulars, one_file}
 use Rattle.cd_grammar.proofs.SortedParts.{one_mark, one_constant, one_expr, some_exprs, some_items, some_expr_fields}
-use Rattle.cd_grammar.proofs.SortedParts.{some_branches, one_function, one_program, one_token}
+use Rattle.cd_grammar.proofs.SortedParts.{some_branches, some_steps, one_function, one_program, one_token, one_label}
 use Rattle.cd_grammar.proofs.SortedOnes.{item_fits}
+use Rattle.cd_grammar.proofs.SortedQueries.{path_fits}
 
 module _ (facts : Facts) (kept : AreKept facts) where
   open facts use {of_tree as T, of_regular as R, of_label as L, of_expr as E, of_function as F}
@@ -22,10 +24,11 @@ module _ (facts : Facts) (kept : AreKept facts) where
   two_fit p own two.First here a b is so = is
   two_fit p own two.Second here a b is so = so
   two_fit p own two.HalfInterval here _ _ (one_token low) (one_token high) = one_tree _ ((trees_kept p).ints here _ _)
-  two_fit p own two.AndOthers here _ b (some_fields all more are) so = some_fields all true are
-  two_fit p own two.NextFields here _ _ (some_fields all more are) (some_fields rest others so) =
-      some_fields _ false (joined (OfField (T p) L) all rest are so)
-  two_fit p own two.NoFields here a b is so = one_tree _ ((trees_kept p).fields here [] false tt)
+  two_fit p own two.AndOthers here _ _ (some_fields all none are it) (some_fields rest others so is) =
+      some_fields all others are is
+  two_fit p own two.NextFields here _ _ (some_fields all none are it) (some_fields rest others so is) =
+      some_fields _ Closed (joined (OfField (T p) L) all rest are so) tt
+  two_fit p own two.NoFields here a b is so = one_tree _ ((trees_kept p).fields here [] Closed tt tt)
   two_fit p own two.EmptySequence here a _ is (one_token close) =
       one_tree _ ((trees_kept p).sequence here _ ((trees_kept p).nothing _))
   two_fit p own two.TwoRegulars here _ _ (one_regular first is) (one_regular second so) =
@@ -62,3 +65,8 @@ module _ (facts : Facts) (kept : AreKept facts) where
   two_fit p own two.NoExprFields here a b is so = one_expr _ (exprs_kept.fields here [] tt)
   two_fit p own two.NextExprFields here _ _ (some_expr_fields all are) (some_expr_fields rest so) =
       some_expr_fields _ (joined (OfExprField E L) all rest are so)
+  two_fit p own two.Path here _ _ (one_expr first is) (some_steps steps are) =
+      one_expr _ (path_fits facts kept here here first [] steps is tt are)
+  two_fit p own two.FieldStep here a _ sign (one_label word so) = some_steps _ (so, tt)
+  two_fit p own two.ChildStep here _ _ (one_token sign) (one_label word so) = some_steps _ (so, tt)
+  two_fit p own two.AttributeStep here _ _ (one_token sign) (one_label word so) = some_steps _ (so, tt)

@@ -26,6 +26,8 @@ pub data Sort : Type 0 where
   OfExprFields : Sort
   OfBranches : Sort
   OfSignatures : Sort
+  OfSteps : Sort
+  OfSources : Sort
   OfFunction : Sort
   OfProgram : Sort
   OfToken : Sort
@@ -45,10 +47,10 @@ abbrev pub tree_sorts : (pattern : Bool) → List Sort
 tree_sorts p =
     -- Tree, Names, Name, Arrow, Arrows, Union, Meets, Meet, Signs
     OfTree p ∷ OfNames p ∷ OfNames p ∷ OfTree p ∷ OfTrees p ∷ OfTree p ∷ OfTrees p ∷ OfTree p ∷ OfSigns p
-    -- Simple, Paren, Trees, Bare, Fields, FieldList, Field
-    ∷ OfTree p ∷ OfTree p ∷ OfTrees p ∷ OfTree p ∷ OfFields p ∷ OfFields p ∷ OfFields p
-    -- Tag, Attrs, AttrFields, AttrList, Attr
-    ∷ OfTree p ∷ OfTree p ∷ OfFields p ∷ OfFields p ∷ OfFields p
+    -- Simple, Paren, Trees, Bare, Fields, Others, FieldList, Field
+    ∷ OfTree p ∷ OfTree p ∷ OfTrees p ∷ OfTree p ∷ OfFields p ∷ OfFields p ∷ OfFields p ∷ OfFields p
+    -- Tag, Attrs, AttrFields, AttrOthers, AttrList, Attr
+    ∷ OfTree p ∷ OfTree p ∷ OfFields p ∷ OfFields p ∷ OfFields p ∷ OfFields p
     -- Reg, Alts, RSeq, RPosts, RPost, RItem, Group
     ∷ OfRegular p ∷ OfRegulars p ∷ OfRegular p ∷ OfRegulars p ∷ OfRegular p ∷ OfRegular p ∷ OfRegular p
     -- GReg, GAlts, GSeq, GPosts, GItem
@@ -78,8 +80,8 @@ program_sorts =
     ∷ OfExpr ∷ OfExpr ∷ OfExpr ∷ OfChain ∷ OfExpr ∷ OfChain ∷ OfExpr ∷ OfChain
     -- Cat, Cats, Sum, Sums, Prod, Prods, App, Posts
     ∷ OfExpr ∷ OfChain ∷ OfExpr ∷ OfChain ∷ OfExpr ∷ OfChain ∷ OfExpr ∷ OfExprs
-    -- Post, Selects, NPost, NSelects, CPost, CSelects
-    ∷ OfExpr ∷ OfChain ∷ OfExpr ∷ OfChain ∷ OfExpr ∷ OfChain
+    -- Post, NPost, CPost, Steps, Sources
+    ∷ OfExpr ∷ OfExpr ∷ OfExpr ∷ OfSteps ∷ OfSources
     -- Base, NBase, CBase, Core, Exprs, Items, Item
     ∷ OfExpr ∷ OfExpr ∷ OfExpr ∷ OfExpr ∷ OfExprs ∷ OfItems ∷ OfItems
     -- EFields, ERow, EField, ETag, EAttrs

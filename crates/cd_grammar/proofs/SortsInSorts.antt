@@ -5,7 +5,7 @@ use Rattle.cd_grammar.specs.Parts.{Part}
 use Rattle.cd_grammar.proofs.Sorts.{Sort, OfTree, OfTrees, OfSigns, OfFields, OfNames, OfFile, OfRegular, OfRegulars}
 use Rattle.cd_grammar.proofs.Sorts.{OfMark, OfToken, OfLiteral, OfCharacter, OfAtom, OfLabel, OfAnything, OfConstant}
 use Rattle.cd_grammar.proofs.Sorts.{OfExpr, OfExprs, OfChain, OfItems, OfExprFields, OfBranches, OfSignatures}
-use Rattle.cd_grammar.proofs.Sorts.{OfFunction, OfProgram}
+use Rattle.cd_grammar.proofs.Sorts.{OfSteps, OfSources, OfFunction, OfProgram}
 use Rattle.cd_grammar.proofs.SortedParts.{Facts, Fits, one_token, one_literal, one_character, one_atom, one_part}
 use Rattle.cd_grammar.proofs.SortedParts.{AreFit, none, and}
 
@@ -42,6 +42,8 @@ is_in OfItems OfItems = Some same
 is_in OfExprFields OfExprFields = Some same
 is_in OfBranches OfBranches = Some same
 is_in OfSignatures OfSignatures = Some same
+is_in OfSteps OfSteps = Some same
+is_in OfSources OfSources = Some same
 is_in OfFunction OfFunction = Some same
 is_in OfProgram OfProgram = Some same
 is_in OfToken OfToken = Some same

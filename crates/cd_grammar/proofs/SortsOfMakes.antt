@@ -18,7 +18,7 @@ use Rattle.cd_grammar.specs.declared.make.Six.TheVariants as six
 use Rattle.cd_grammar.proofs.Sorts.{Sort, OfTree, OfTrees, OfSigns, OfFields, OfNames, OfFile, OfRegular, OfRegulars}
 use Rattle.cd_grammar.proofs.Sorts.{OfMark, OfToken, OfLiteral, OfCharacter, OfAtom, OfLabel, OfAnything, OfConstant}
 use Rattle.cd_grammar.proofs.Sorts.{OfExpr, OfExprs, OfChain, OfItems, OfExprFields, OfBranches, OfSignatures}
-use Rattle.cd_grammar.proofs.Sorts.{OfFunction, OfProgram}
+use Rattle.cd_grammar.proofs.Sorts.{OfSteps, OfSources, OfFunction, OfProgram}
 
 module _ (p : Bool) (own : Sort) where
   abbrev pub of_one : One → Sort × Sort
@@ -59,7 +59,7 @@ module _ (p : Bool) (own : Sort) where
   of_two two.First = (own, OfAnything, own)
   of_two two.Second = (OfAnything, own, own)
   of_two two.HalfInterval = (OfToken, OfToken, OfTree p)
-  of_two two.AndOthers = (OfFields p, OfAnything, OfFields p)
+  of_two two.AndOthers = (OfFields p, OfFields p, OfFields p)
   of_two two.NextFields = (OfFields p, OfFields p, OfFields p)
   of_two two.NoFields = (OfAnything, OfAnything, OfTree p)
   of_two two.EmptySequence = (OfAnything, OfToken, OfTree p)
@@ -82,6 +82,10 @@ module _ (p : Bool) (own : Sort) where
   of_two two.Splice = (OfAnything, OfExpr, OfItems)
   of_two two.NoExprFields = (OfAnything, OfAnything, OfExpr)
   of_two two.NextExprFields = (OfExprFields, OfExprFields, OfExprFields)
+  of_two two.Path = (OfExpr, OfSteps, OfExpr)
+  of_two two.FieldStep = (OfAnything, OfLabel, OfSteps)
+  of_two two.ChildStep = (OfToken, OfLabel, OfSteps)
+  of_two two.AttributeStep = (OfToken, OfLabel, OfSteps)
 
   abbrev pub of_three : Three → Sort × Sort × Sort × Sort
   of_three three.Between = (OfAnything, own, OfAnything, own)
@@ -98,7 +102,8 @@ module _ (p : Bool) (own : Sort) where
   of_three three.Where = (OfTree p, OfAnything, OfNames p, OfTree p)
   of_three (three.Field optional) = (OfLabel, OfAnything, OfTree p, OfFields p)
   of_three three.SeparateFields = (OfFields p, OfAnything, OfFields p, OfFields p)
-  of_three three.SeparateOthers = (OfFields p, OfAnything, OfAnything, OfFields p)
+  of_three three.SeparateOthers = (OfFields p, OfAnything, OfFields p, OfFields p)
+  of_three three.TypedOthers = (OfAnything, OfAnything, OfTree p, OfFields p)
   of_three three.Record = (OfAnything, OfFields p, OfAnything, OfTree p)
   of_three three.Sequence = (OfAnything, OfRegular p, OfAnything, OfTree p)
   of_three three.EitherRegular = (OfRegular p, OfAnything, OfRegular p, OfRegulars p)
@@ -116,8 +121,10 @@ module _ (p : Bool) (own : Sort) where
   of_three (three.NextOperand op) = (OfChain, OfAnything, OfExpr, OfChain)
   of_three three.FirstWithout = (OfExpr, OfAnything, OfLabel, OfChain)
   of_three three.NextWithout = (OfChain, OfAnything, OfLabel, OfChain)
-  of_three three.FirstSelect = (OfExpr, OfAnything, OfLabel, OfChain)
-  of_three three.NextSelect = (OfChain, OfAnything, OfLabel, OfChain)
+  of_three three.BeforeFieldStep = (OfAnything, OfLabel, OfSteps, OfSteps)
+  of_three three.BeforeChildStep = (OfToken, OfLabel, OfSteps, OfSteps)
+  of_three three.BeforeAttributeStep = (OfToken, OfLabel, OfSteps, OfSteps)
+  of_three three.Source = (OfTree true, OfAnything, OfExpr, OfSources)
   of_three three.TwoExprs = (OfExpr, OfAnything, OfExpr, OfExprs)
   of_three three.NextExpr = (OfExprs, OfAnything, OfExpr, OfExprs)
   of_three three.TupleExpr = (OfAnything, OfExprs, OfAnything, OfExpr)
@@ -138,10 +145,13 @@ module _ (p : Bool) (own : Sort) where
   of_five five.Default = (OfAnything, OfLabel, OfAnything, OfConstant, OfAnything, OfTree true)
   of_five five.DeclaredFunction = (OfAnything, OfLabel, OfLabel, OfSignatures, OfBranches, OfFunction)
   of_five five.XmlExprWith = (OfAnything, OfExpr, OfExpr, OfAnything, OfExpr, OfExpr)
+  of_five five.SourceWhere = (OfTree true, OfAnything, OfExpr, OfAnything, OfExpr, OfSources)
+  of_five five.BeforeSources = (OfTree true, OfAnything, OfExpr, OfAnything, OfSources, OfSources)
 
   abbrev pub of_six : Six → Sort × Sort × Sort × Sort × Sort × Sort × Sort
   of_six six.Let = (OfAnything, OfTree true, OfAnything, OfExpr, OfAnything, OfExpr, OfExpr)
   of_six six.If = (OfAnything, OfExpr, OfAnything, OfExpr, OfAnything, OfExpr, OfExpr)
+  of_six six.Selecting = (OfAnything, OfAnything, OfExpr, OfAnything, OfSources, OfAnything, OfExpr)
 
   -- of all parts, and of what is made of them
   abbrev pub sorts_of : Make → List Sort × Sort

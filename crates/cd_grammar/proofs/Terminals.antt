@@ -98,13 +98,14 @@ entries =
     later (token.Sign sign.ColonColon) ∷ later (token.Sign sign.Becomes) ∷ later (token.Sign sign.Dots) ∷
     later (token.Sign sign.NotEqual) ∷ later (token.Sign sign.LessEqual) ∷ later (token.Sign sign.GreaterEqual) ∷
     later (token.Sign sign.AndAnd) ∷ later (token.Sign sign.OrOr) ∷ later (token.Sign sign.Semicolons) ∷
+    later (token.Sign sign.SlashAt) ∷
     later (token.Sign sign.OpenParenthesis) ∷ later (token.Sign sign.CloseParenthesis) ∷
     later (token.Sign sign.OpenBracket) ∷ later (token.Sign sign.CloseBracket) ∷ later (token.Sign sign.OpenBrace) ∷
     later (token.Sign sign.CloseBrace) ∷ later (token.Sign sign.Less) ∷ later (token.Sign sign.Greater) ∷
     later (token.Sign sign.Equal) ∷ later (token.Sign sign.Question) ∷ later (token.Sign sign.Star) ∷
     later (token.Sign sign.Plus) ∷ later (token.Sign sign.Minus) ∷ later (token.Sign sign.Backslash) ∷
     later (token.Sign sign.Or) ∷ later (token.Sign sign.And) ∷ later (token.Sign sign.Comma) ∷
-    later (token.Sign sign.Semicolon) ∷ later (token.Sign sign.Dot) ∷ later (token.Sign sign.Splice) ∷
+    later (token.Sign sign.Semicolon) ∷ later (token.Sign sign.Dot) ∷ later (token.Sign sign.Slash) ∷ later (token.Sign sign.Splice) ∷
     later (token.Sign sign.At) ∷ later (token.Word (codes "_")) ∷ later (token.Word (codes "type")) ∷
     later (token.Word (codes "let")) ∷ later (token.Word (codes "fun")) ∷ later (token.Word (codes "in")) ∷
     later (token.Word (codes "match")) ∷ later (token.Word (codes "with")) ∷ later (token.Word (codes "if")) ∷
@@ -112,7 +113,8 @@ entries =
     later (token.Word (codes "map")) ∷ later (token.Word (codes "transform")) ∷ later (token.Word (codes "where")) ∷
     later (token.Word (codes "and")) ∷ later (token.Word (codes "div")) ∷ later (token.Word (codes "mod")) ∷
     later (token.Word (codes "not")) ∷ later (token.Word (codes "flatten")) ∷ later (token.Word (codes "int_of")) ∷
-    later (token.Word (codes "string_of")) ∷ later (token.Word (codes "raise")) ∷ later (token.Int (pos 0)) ∷
+    later (token.Word (codes "string_of")) ∷ later (token.Word (codes "min_of")) ∷ later (token.Word (codes "max_of")) ∷
+    later (token.Word (codes "raise")) ∷ later (token.Word (codes "select")) ∷ later (token.Word (codes "from")) ∷ later (token.Int (pos 0)) ∷
     later (token.Chars (codes "a")) ∷ later (token.Chars []) ∷ later (token.Text []) ∷
     later (token.Atom (codes "a")) ∷ later (token.Word (codes "A")) ∷ later (token.Word (codes "a")) ∷
     To goal.TypeText ∷ To goal.TypeFile ∷ To goal.ProgramText ∷ []

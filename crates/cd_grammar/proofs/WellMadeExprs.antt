@@ -1,5 +1,7 @@
 -- What rules make of well made expressions, functions and programs is well made.
-use Rattle.std.proofs.Common.{◌≢◌, ℕ, List, [], ◌∷◌, Option, Some, None}
+use Rattle.std.proofs.Common.{◌≡◌, ◌≢◌, ◌∙◌, sym, refl, ℕ, true, false, List, [], ◌∷◌, Option, Some, None}
+use Rattle.std.proofs.Common.{codes, bytes_eq}
+use Rattle.std.proofs.lemmas.Slice.Eq.{bytes_eq-Decides}
 use Rattle.std.specs.List.{AllByRecursion as AllOf}
 use Rattle.cd_syntax.specs.Name.{Name, IsLabel}
 use Rattle.cd_syntax.specs.WellMade.{IsWellMade}
@@ -13,7 +15,9 @@ use Rattle.cd_syntax.specs.WellMadePattern.{IsWellMadePattern}
 use Rattle.cd_program.specs.WellMade.{IsWellMadeExprKind, AreWellMadeExprs, AreWellMadeItems, AreWellMadeExprFields}
 use Rattle.cd_program.specs.WellMade.{AreWellMadeTails, AreWellMadeBranches, IsWellMadeFunction, HasName}
 use Rattle.cd_program.specs.WellMade.{AreWellMadeFunctions}
-use Rattle.cd_grammar.proofs.SortedParts.{ExprsAreKept, OfItem, OfExprField, OfTail, OfBranch, OfSignature}
+use Rattle.cd_query.specs.Core.{content_name, child_name}
+use Rattle.cd_grammar.proofs.SortedParts.{ExprsAreKept, HiddenAreKept, OfItem, OfExprField, OfTail, OfBranch}
+use Rattle.cd_grammar.proofs.SortedParts.{OfSignature}
 use Rattle.cd_grammar.proofs.WellMadeFacts.{well_made}
 use Rattle.cd_grammar.proofs.WellMadePatterns.{value_made}
 
@@ -100,4 +104,16 @@ exprs_kept = record {
       function_made word (Some name) name_at arrow arrows first rest is are so;
   declared = λ word name name_at arrow arrows first rest is are so.
       (tt, function_made word (Some name) name_at arrow arrows first rest is are so);
+}
+
+-- the names of variables that no text has are labels
+is_no_blank : (name : Name) → bytes_eq name (codes "_") ≡ false → name ≢ codes "_"
+is_no_blank name other same =
+    let never : true ≡ false = sym ((bytes_eq-Decides name (codes "_")).1 same) ∙ other in
+    absurd cc
+
+pub hidden_kept : HiddenAreKept well_made
+hidden_kept = record {
+  content = (refl, is_no_blank content_name refl);
+  child = (refl, is_no_blank child_name refl);
 }

@@ -6,10 +6,12 @@ use Rattle.cd_syntax.specs.declared.constant.Constant.TheVariants as constants
 use Rattle.cd_syntax.specs.Name.{IsLabel}
 use Rattle.cd_syntax.specs.TypeTree.{Tree, Signed, Field, Declaration, Regular, trees_of, signs_of, fields_of}
 use Rattle.cd_syntax.specs.TypeTree.{declarations_of, regulars_of}
+use Rattle.cd_syntax.specs.TypeTree.{Rest, Closed, Open, Typed}
 use Rattle.cd_syntax.specs.WellMadePattern.{IsWellMadePattern, AreWellMadePatterns, AreWellMadePatternSigns}
 use Rattle.cd_syntax.specs.WellMadePattern.{AreWellMadePatternFields, AreWellMadePatternDeclarations}
 use Rattle.cd_syntax.specs.WellMadePattern.{IsWellMadePatternRegular, AreWellMadePatternRegulars, IsWellMadeConstant}
-use Rattle.cd_grammar.proofs.SortedParts.{TreesAreKept, PatternsAreKept, OfSign, OfField, OfName, OfValue}
+use Rattle.cd_syntax.specs.WellMadePattern.{IsWellMadePatternRest}
+use Rattle.cd_grammar.proofs.SortedParts.{TreesAreKept, PatternsAreKept, OfSign, OfField, OfName, OfValue, OfRest}
 use Rattle.cd_grammar.proofs.WellMadeFacts.{well_made}
 
 trees_made : (all : List Tree) → AllOf IsWellMadePattern all → AreWellMadePatterns (trees_of all)
@@ -29,6 +31,11 @@ fields_made : (all : List Field) → AllOf (OfField IsWellMadePattern IsLabel) a
 fields_made [] are = tt
 fields_made (first ∷ rest) are = (are.0.0, are.0.1, fields_made rest are.1)
 
+rest_made : (others : Rest) → OfRest IsWellMadePattern others → IsWellMadePatternRest others
+rest_made Closed so = tt
+rest_made Open so = tt
+rest_made (Typed is) so = so
+
 declarations_made : (all : List Declaration) → AllOf (OfName IsWellMadePattern) all
     → AreWellMadePatternDeclarations (declarations_of all)
 declarations_made [] are = tt
@@ -47,7 +54,7 @@ pattern_trees_kept = record {
   union = λ here first second rest are. trees_made (first ∷ second ∷ rest) are;
   meet = λ here first rest is are. (is, signs_made rest are);
   sequence = λ here one is. is;
-  fields = λ here all more are. fields_made all are;
+  fields = λ here all others are so. (fields_made all are, rest_made others so);
   xml = λ here tag attributes content is so too. (is, so, too);
   where_names = λ here one all is are. (is, declarations_made all are);
   nothing = λ here. tt;

@@ -41,7 +41,7 @@ nothing_kept = record {
     union = λ here first second rest are. tt;
     meet = λ here first rest is are. tt;
     sequence = λ here one is. tt;
-    fields = λ here all more are. tt;
+    fields = λ here all others are so. tt;
     xml = λ here tag attributes content is so too. tt;
     where_names = λ here one all is are. tt;
     nothing = λ here. tt;
@@ -72,6 +72,7 @@ nothing_kept = record {
     named = λ here word name name_at arrow arrows first rest is are so. tt;
     declared = λ word name name_at arrow arrows first rest is are so. tt;
   };
+  hidden_kept = record { content = tt; child = tt };
   file = λ all are. tt;
 }
 

@@ -1,7 +1,7 @@
 -- What each rule makes of types and patterns; `here` is from the first character of its first token
 -- to the end of its last one. A part that is not of the form that a rule wants gives nothing of
 -- use.
-use Rattle.std.specs.Prelude.{ℕ, ℤ, Bool, true, false, List, [], ◌∷◌, ◌++◌, map}
+use Rattle.std.specs.Prelude.{ℕ, ℤ, Bool, List, [], ◌∷◌, ◌++◌, map}
 use Rattle.std.specs.Prelude.{Option, Some, None}
 use Rattle.cd_syntax.specs.declared.tokens.Span.{Span}
 use Rattle.cd_syntax.specs.declared.tokens.Token.{Token}
@@ -17,6 +17,7 @@ use Rattle.cd_syntax.specs.TypeTree.{Arrows, Union, Meet, Sequence, Record, Xml,
 use Rattle.cd_syntax.specs.TypeTree.{Variable, Default, Declaration, trees_of, signs_of, fields_of}
 use Rattle.cd_syntax.specs.TypeTree.{declarations_of, regulars_of, Regular, regular}
 use Rattle.cd_syntax.specs.TypeTree.{RegularKind, Nothing, Item, Seq, Alt, Repeat, Capture}
+use Rattle.cd_syntax.specs.TypeTree.{Closed, Typed}
 use Rattle.cd_tables.specs.Rows.{row_of}
 use Rattle.cd_tables.specs.Words.{type_names}
 use Rattle.cd_grammar.specs.Parts.{Part, ATree, Trees, Signs, SomeFields, Names, AFile}
@@ -135,17 +136,22 @@ field optional label is =
       at = word.span.from;
       optional = optional;
       tree = one;
-    } ∷ []) false)
+    } ∷ []) Closed)
 
 abbrev pub next_fields : Part → Part → Part
 next_fields fields more =
-    of_two (fields_in fields) (fields_in more) (λ all rest. SomeFields (all.0 ++ rest.0) false)
+    of_two (fields_in fields) (fields_in more) (λ all rest. SomeFields (all.0 ++ rest.0) Closed)
 
-abbrev pub and_others : Part → Part
-and_others fields = of_one (fields_in fields) (λ all. SomeFields all.0 true)
+abbrev pub typed_others : Part → Part
+typed_others is = of_one (tree_in is) (λ one. SomeFields [] (Typed one))
+
+-- fields, and what stands after them
+abbrev pub and_others : Part → Part → Part
+and_others fields others =
+    of_two (fields_in fields) (fields_in others) (λ all rest. SomeFields all.0 rest.1)
 
 abbrev pub no_fields : Span → Part
-no_fields here = ATree (tree here (Record (fields_of []) false))
+no_fields here = ATree (tree here (Record (fields_of []) Closed))
 
 abbrev pub fields : Span → Part → Part
 fields here is = of_one (fields_in is) (λ all. ATree (tree here (Record (fields_of all.0) all.1)))
@@ -155,7 +161,7 @@ abbrev pub label : Span → Part → Part
 label here word = of_one (token_in word) (λ one. ATree (tree here (Atom (name_in one.kind))))
 
 abbrev pub no_attributes : (at : ℕ) → Tree
-no_attributes at = tree (record { from = at; to = at }) (Record (fields_of []) false)
+no_attributes at = tree (record { from = at; to = at }) (Record (fields_of []) Closed)
 
 abbrev pub xml : Span → (tag close content : Part) → Part
 xml here tag close content =

@@ -1,5 +1,5 @@
 -- Texts as their tokens, and the trees that they write.
-use Rattle.std.specs.Prelude.{ℕ, ◌<◌, pos, true, false, List, [], ◌∷◌, ◌++◌, codes}
+use Rattle.std.specs.Prelude.{ℕ, ◌<◌, pos, List, [], ◌∷◌, ◌++◌, codes}
 use Rattle.std.specs.Prelude.{Some, None}
 use Rattle.cd_syntax.specs.declared.sign.Sign.TheVariants as sign
 use Rattle.cd_syntax.specs.declared.tokens.Token.{Token}
@@ -7,7 +7,7 @@ use Rattle.cd_syntax.specs.declared.builtin.BuiltinName.TheVariants as builtin
 use Rattle.cd_syntax.specs.declared.type_tree.Post.TheVariants as post
 use Rattle.cd_syntax.specs.TypeTree.{Tree, Ints, Chars, Atom, Text, Tuple}
 use Rattle.cd_syntax.specs.TypeTree.{Arrows, Union, Meet, Sequence, Record, Xml, Where}
-use Rattle.cd_syntax.specs.TypeTree.{Declarations}
+use Rattle.cd_syntax.specs.TypeTree.{Declarations, Closed, Open, Typed}
 use Rattle.cd_syntax.specs.TypeTree.{Nothing, Seq, Alt, Repeat}
 use Rattle.cd_syntax.specs.TypeTree.{trees_of, signs_of, fields_of, declarations_of, regulars_of}
 use Rattle.cd_grammar.specs.Language.{IsTree}
@@ -59,7 +59,7 @@ record_tokens = sign_at sign.OpenBrace 0 ∷ word_at "a" 1 ∷ sign_at sign.Equa
 -- two
 abbrev pub record_tree : Tree
 record_tree = tree_from 0 15
-    (Record (fields_of (field_at "a" 1 (ints_at 3) ∷ optional_at "b" 7 (any_at 10) ∷ [])) true)
+    (Record (fields_of (field_at "a" 1 (ints_at 3) ∷ optional_at "b" 7 (any_at 10) ∷ [])) Open)
 
 -- `X where X=1|(X,X)`
 abbrev pub where_tokens : List Token
@@ -183,7 +183,7 @@ xml_tokens = sign_at sign.Less 0 ∷ word_at "a" 1 ∷ word_at "x" 3 ∷ sign_at
 
 abbrev pub xml_tree : Tree
 xml_tree = tree_from 0 14 (Xml (tree_from 1 2 (Atom (codes "a")))
-    (tree_from 3 11 (Record (fields_of (field_at "x" 3 (ints_at 5) ∷ [])) true))
+    (tree_from 3 11 (Record (fields_of (field_at "x" 3 (ints_at 5) ∷ [])) Open))
     (tree_from 12 14 (Sequence (regular_from 13 13 Nothing))))
 
 abbrev pub any_xml_tokens : List Token
@@ -254,7 +254,7 @@ keyword_tokens = sign_at sign.OpenBrace 0 ∷ word_at "let" 1 ∷ sign_at sign.E
     ∷ word_at "Int" 5 ∷ sign_at sign.CloseBrace 8 ∷ []
 
 abbrev pub keyword_tree : Tree
-keyword_tree = tree_from 0 9 (Record (fields_of (field_at "let" 1 (ints_at 5) ∷ [])) false)
+keyword_tree = tree_from 0 9 (Record (fields_of (field_at "let" 1 (ints_at 5) ∷ [])) Closed)
 
 -- A text, the tree that it writes, and how deep it is
 pub record Example : Type 0 where
@@ -348,26 +348,41 @@ abbrev pub record_texts : List Example
 record_texts =
     -- `{}`
     example 1 (sign_at sign.OpenBrace 0 ∷ sign_at sign.CloseBrace 1 ∷ [])
-    (tree_from 0 2 (Record (fields_of []) false))
+    (tree_from 0 2 (Record (fields_of []) Closed))
     -- `{..}`
     ∷ example 1 (sign_at sign.OpenBrace 0 ∷ sign_at sign.Dots 1 ∷ sign_at sign.CloseBrace 3 ∷ [])
-    (tree_from 0 4 (Record (fields_of []) true))
+    (tree_from 0 4 (Record (fields_of []) Open))
     -- `{a=Int; ..}`
     ∷ example 1 (sign_at sign.OpenBrace 0 ∷ word_at "a" 1 ∷ sign_at sign.Equal 2
     ∷ word_at "Int" 3 ∷ sign_at sign.Semicolon 6 ∷ sign_at sign.Dots 8
     ∷ sign_at sign.CloseBrace 10 ∷ [])
-    (tree_from 0 11 (Record (fields_of (field_at "a" 1 (ints_at 3) ∷ [])) true))
+    (tree_from 0 11 (Record (fields_of (field_at "a" 1 (ints_at 3) ∷ [])) Open))
     -- `{a=?Int;}`
     ∷ example 1 (sign_at sign.OpenBrace 0 ∷ word_at "a" 1 ∷ sign_at sign.EqualQuestion 2
     ∷ word_at "Int" 4 ∷ sign_at sign.Semicolon 7 ∷ sign_at sign.CloseBrace 8 ∷ [])
-    (tree_from 0 9 (Record (fields_of (optional_at "a" 1 (ints_at 4) ∷ [])) false))
+    (tree_from 0 9 (Record (fields_of (optional_at "a" 1 (ints_at 4) ∷ [])) Closed))
     -- `{a=1|2;A=3}`
     ∷ example 1 (sign_at sign.OpenBrace 0 ∷ word_at "a" 1 ∷ sign_at sign.Equal 2 ∷ digit_at 1 3
     ∷ sign_at sign.Or 4 ∷ digit_at 2 5 ∷ sign_at sign.Semicolon 6 ∷ word_at "A" 7
     ∷ sign_at sign.Equal 8 ∷ digit_at 3 9 ∷ sign_at sign.CloseBrace 10 ∷ [])
     (tree_from 0 11 (Record (fields_of
     (field_at "a" 1 (tree_from 3 6 (Union (trees_of (number_at 1 3 ∷ number_at 2 5 ∷ []))))
-    ∷ field_at "A" 7 (number_at 3 9) ∷ [])) false))
+    ∷ field_at "A" 7 (number_at 3 9) ∷ [])) Closed))
+    -- `{_=?Int}`
+    ∷ example 1 (sign_at sign.OpenBrace 0 ∷ word_at "_" 1 ∷ sign_at sign.EqualQuestion 2
+    ∷ word_at "Int" 4 ∷ sign_at sign.CloseBrace 7 ∷ [])
+    (tree_from 0 8 (Record (fields_of []) (Typed (ints_at 4))))
+    -- `{a=1 _=?Int}`
+    ∷ example 1 (sign_at sign.OpenBrace 0 ∷ word_at "a" 1 ∷ sign_at sign.Equal 2 ∷ digit_at 1 3
+    ∷ word_at "_" 5 ∷ sign_at sign.EqualQuestion 6 ∷ word_at "Int" 8 ∷ sign_at sign.CloseBrace 11
+    ∷ [])
+    (tree_from 0 12 (Record (fields_of (field_at "a" 1 (number_at 1 3) ∷ [])) (Typed (ints_at 8))))
+    -- `{a=1; _=?A|B}`
+    ∷ example 1 (sign_at sign.OpenBrace 0 ∷ word_at "a" 1 ∷ sign_at sign.Equal 2 ∷ digit_at 1 3
+    ∷ sign_at sign.Semicolon 4 ∷ word_at "_" 6 ∷ sign_at sign.EqualQuestion 7 ∷ word_at "A" 9
+    ∷ sign_at sign.Or 10 ∷ word_at "B" 11 ∷ sign_at sign.CloseBrace 12 ∷ [])
+    (tree_from 0 13 (Record (fields_of (field_at "a" 1 (number_at 1 3) ∷ [])) (Typed (tree_from 9 12
+    (Union (trees_of (named_at "A" 9 ∷ named_at "B" 11 ∷ [])))))))
     ∷ []
 
 -- XML types: the type of an attribute and the content end as soon as they can
@@ -380,20 +395,20 @@ xml_texts =
     ∷ sign_at sign.OpenBracket 20 ∷ sign_at sign.CloseBracket 21 ∷ [])
     (tree_from 0 22 (Xml (tree_from 1 2 (Atom (codes "a")))
     (tree_from 3 19 (Record (fields_of
-    (field_at "x" 3 (ints_at 5) ∷ optional_at "y" 9 (ints_at 12) ∷ [])) true))
+    (field_at "x" 3 (ints_at 5) ∷ optional_at "y" 9 (ints_at 12) ∷ [])) Open))
     (tree_from 20 22 (Sequence (regular_from 21 21 Nothing)))))
     -- `<_ ({..})>Int`
     ∷ example 3 (sign_at sign.Less 0 ∷ word_at "_" 1 ∷ sign_at sign.OpenParenthesis 3
     ∷ sign_at sign.OpenBrace 4 ∷ sign_at sign.Dots 5 ∷ sign_at sign.CloseBrace 7
     ∷ sign_at sign.CloseParenthesis 8 ∷ sign_at sign.Greater 9 ∷ word_at "Int" 10 ∷ [])
     (tree_from 0 13
-    (Xml (any_at 1) (tree_from 4 8 (Record (fields_of []) true)) (ints_at 10)))
+    (Xml (any_at 1) (tree_from 4 8 (Record (fields_of []) Open)) (ints_at 10)))
     -- ``<(`a) ..>_``
     ∷ example 2 (sign_at sign.Less 0 ∷ sign_at sign.OpenParenthesis 1 ∷ atom_at "a" 2
     ∷ sign_at sign.CloseParenthesis 4 ∷ sign_at sign.Dots 6 ∷ sign_at sign.Greater 8
     ∷ word_at "_" 9 ∷ [])
     (tree_from 0 10 (Xml (tree_from 2 4 (Atom (codes "a")))
-    (tree_from 6 8 (Record (fields_of []) true)) (any_at 9)))
+    (tree_from 6 8 (Record (fields_of []) Open)) (any_at 9)))
     -- `<a>A|B`
     ∷ example 1 (sign_at sign.Less 0 ∷ word_at "a" 1 ∷ sign_at sign.Greater 2 ∷ word_at "A" 3
     ∷ sign_at sign.Or 4 ∷ word_at "B" 5 ∷ [])
@@ -408,7 +423,7 @@ xml_texts =
     ∷ [])
     (tree_from 0 16 (Xml (tree_from 1 2 (Atom (codes "A")))
     (tree_from 3 10 (Record (fields_of (field_at "x" 3
-    (tree_from 6 9 (Union (trees_of (number_at 1 6 ∷ number_at 2 8 ∷ [])))) ∷ [])) false))
+    (tree_from 6 9 (Union (trees_of (number_at 1 6 ∷ number_at 2 8 ∷ [])))) ∷ [])) Closed))
     (tree_from 11 16 (Tuple (trees_of (number_at 3 12 ∷ number_at 4 14 ∷ []))))))
     -- `<a x=1;y=2;>_`
     ∷ example 1 (sign_at sign.Less 0 ∷ word_at "a" 1 ∷ word_at "x" 3 ∷ sign_at sign.Equal 4
@@ -416,13 +431,32 @@ xml_texts =
     ∷ digit_at 2 9 ∷ sign_at sign.Semicolon 10 ∷ sign_at sign.Greater 11 ∷ word_at "_" 12 ∷ [])
     (tree_from 0 13 (Xml (tree_from 1 2 (Atom (codes "a")))
     (tree_from 3 11 (Record (fields_of
-    (field_at "x" 3 (number_at 1 5) ∷ field_at "y" 7 (number_at 2 9) ∷ [])) false))
+    (field_at "x" 3 (number_at 1 5) ∷ field_at "y" 7 (number_at 2 9) ∷ [])) Closed))
     (any_at 12)))
     -- `<a x=1 ..>_`
     ∷ example 1 (sign_at sign.Less 0 ∷ word_at "a" 1 ∷ word_at "x" 3 ∷ sign_at sign.Equal 4
     ∷ digit_at 1 5 ∷ sign_at sign.Dots 7 ∷ sign_at sign.Greater 9 ∷ word_at "_" 10 ∷ [])
     (tree_from 0 11 (Xml (tree_from 1 2 (Atom (codes "a")))
-    (tree_from 3 9 (Record (fields_of (field_at "x" 3 (number_at 1 5) ∷ [])) true)) (any_at 10)))
+    (tree_from 3 9 (Record (fields_of (field_at "x" 3 (number_at 1 5) ∷ [])) Open)) (any_at 10)))
+    -- `<a _=?Int>_`
+    ∷ example 1 (sign_at sign.Less 0 ∷ word_at "a" 1 ∷ word_at "_" 3 ∷ sign_at sign.EqualQuestion 4
+    ∷ word_at "Int" 6 ∷ sign_at sign.Greater 9 ∷ word_at "_" 10 ∷ [])
+    (tree_from 0 11 (Xml (tree_from 1 2 (Atom (codes "a"))) (tree_from 3 9 (Record (fields_of [])
+    (Typed (ints_at 6)))) (any_at 10)))
+    -- `<a x=1 _=?Int>_`
+    ∷ example 1 (sign_at sign.Less 0 ∷ word_at "a" 1 ∷ word_at "x" 3 ∷ sign_at sign.Equal 4
+    ∷ digit_at 1 5 ∷ word_at "_" 7 ∷ sign_at sign.EqualQuestion 8 ∷ word_at "Int" 10
+    ∷ sign_at sign.Greater 13 ∷ word_at "_" 14 ∷ [])
+    (tree_from 0 15 (Xml (tree_from 1 2 (Atom (codes "a"))) (tree_from 3 13 (Record (fields_of
+    (field_at "x" 3 (number_at 1 5) ∷ [])) (Typed (ints_at 10)))) (any_at 14)))
+    -- `<a x=1; _=?(1|2)>_`
+    ∷ example 2 (sign_at sign.Less 0 ∷ word_at "a" 1 ∷ word_at "x" 3 ∷ sign_at sign.Equal 4
+    ∷ digit_at 1 5 ∷ sign_at sign.Semicolon 6 ∷ word_at "_" 8 ∷ sign_at sign.EqualQuestion 9
+    ∷ sign_at sign.OpenParenthesis 11 ∷ digit_at 1 12 ∷ sign_at sign.Or 13 ∷ digit_at 2 14
+    ∷ sign_at sign.CloseParenthesis 15 ∷ sign_at sign.Greater 16 ∷ word_at "_" 17 ∷ [])
+    (tree_from 0 18 (Xml (tree_from 1 2 (Atom (codes "a"))) (tree_from 3 16 (Record (fields_of
+    (field_at "x" 3 (number_at 1 5) ∷ [])) (Typed (tree_from 12 15 (Union (trees_of (number_at 1 12
+    ∷ number_at 2 14 ∷ []))))))) (any_at 17)))
     ∷ []
 
 -- each keyword is a label
@@ -439,7 +473,7 @@ keyword_texts =
     (tree_from 6 42 (Record (fields_of (field_at "let" 6 (any_at 10)
     ∷ field_at "fun" 12 (any_at 16) ∷ field_at "in" 18 (any_at 21)
     ∷ field_at "match" 23 (any_at 29) ∷ field_at "with" 31 (any_at 36)
-    ∷ field_at "if" 38 (any_at 41) ∷ [])) false)) (any_at 43)))
+    ∷ field_at "if" 38 (any_at 41) ∷ [])) Closed)) (any_at 43)))
     -- `<then else=_ try=_ map=_ transform=_ where=_ and=_>_`
     ∷ example 1 (sign_at sign.Less 0 ∷ word_at "then" 1 ∷ word_at "else" 6 ∷ sign_at sign.Equal 10
     ∷ word_at "_" 11 ∷ word_at "try" 13 ∷ sign_at sign.Equal 16 ∷ word_at "_" 17
@@ -451,7 +485,7 @@ keyword_texts =
     (tree_from 6 50 (Record (fields_of (field_at "else" 6 (any_at 11)
     ∷ field_at "try" 13 (any_at 17) ∷ field_at "map" 19 (any_at 23)
     ∷ field_at "transform" 25 (any_at 35) ∷ field_at "where" 37 (any_at 43)
-    ∷ field_at "and" 45 (any_at 49) ∷ [])) false)) (any_at 51)))
+    ∷ field_at "and" 45 (any_at 49) ∷ [])) Closed)) (any_at 51)))
     -- `<div mod=_ not=_ flatten=_ int_of=_ string_of=_ raise=_>_`
     ∷ example 1 (sign_at sign.Less 0 ∷ word_at "div" 1 ∷ word_at "mod" 5 ∷ sign_at sign.Equal 8
     ∷ word_at "_" 9 ∷ word_at "not" 11 ∷ sign_at sign.Equal 14 ∷ word_at "_" 15
@@ -463,7 +497,15 @@ keyword_texts =
     (tree_from 5 55 (Record (fields_of (field_at "mod" 5 (any_at 9)
     ∷ field_at "not" 11 (any_at 15) ∷ field_at "flatten" 17 (any_at 25)
     ∷ field_at "int_of" 27 (any_at 34) ∷ field_at "string_of" 36 (any_at 46)
-    ∷ field_at "raise" 48 (any_at 54) ∷ [])) false)) (any_at 56)))
+    ∷ field_at "raise" 48 (any_at 54) ∷ [])) Closed)) (any_at 56)))
+    -- `<min_of max_of=_ select=_ from=_>_`
+    ∷ example 1 (sign_at sign.Less 0 ∷ word_at "min_of" 1 ∷ word_at "max_of" 8
+    ∷ sign_at sign.Equal 14 ∷ word_at "_" 15 ∷ word_at "select" 17 ∷ sign_at sign.Equal 23
+    ∷ word_at "_" 24 ∷ word_at "from" 26 ∷ sign_at sign.Equal 30 ∷ word_at "_" 31
+    ∷ sign_at sign.Greater 32 ∷ word_at "_" 33 ∷ [])
+    (tree_from 0 34 (Xml (tree_from 1 7 (Atom (codes "min_of"))) (tree_from 8 32 (Record (fields_of
+    (field_at "max_of" 8 (any_at 15) ∷ field_at "select" 17 (any_at 24) ∷ field_at "from" 26
+    (any_at 31) ∷ [])) Closed)) (any_at 33)))
     ∷ []
 
 -- sequences
@@ -618,7 +660,7 @@ longer_texts =
     ∷ example 1 (sign_at sign.Less 0 ∷ word_at "a" 1 ∷ sign_at sign.Dots 3
     ∷ sign_at sign.Greater 5 ∷ word_at "_" 6 ∷ [])
     (tree_from 0 7 (Xml (tree_from 1 2 (Atom (codes "a")))
-    (tree_from 3 5 (Record (fields_of []) true)) (any_at 6)))
+    (tree_from 3 5 (Record (fields_of []) Open)) (any_at 6)))
     -- `[1|2|3]`
     ∷ example 1 (sign_at sign.OpenBracket 0 ∷ digit_at 1 1 ∷ sign_at sign.Or 2 ∷ digit_at 2 3
     ∷ sign_at sign.Or 4 ∷ digit_at 3 5 ∷ sign_at sign.CloseBracket 6 ∷ [])
@@ -703,6 +745,16 @@ no_semicolon = sign_at sign.OpenBrace 0 ∷ word_at "a" 1 ∷ sign_at sign.Equal
 abbrev pub no_label : List Token
 no_label = sign_at sign.OpenBrace 0 ∷ word_at "_" 1 ∷ sign_at sign.Equal 2 ∷ digit_at 1 3
     ∷ sign_at sign.CloseBrace 4 ∷ []
+
+-- `{_=?1;}`
+abbrev pub semicolon_after_others : List Token
+semicolon_after_others = sign_at sign.OpenBrace 0 ∷ word_at "_" 1 ∷ sign_at sign.EqualQuestion 2 ∷ digit_at 1 4
+    ∷ sign_at sign.Semicolon 5 ∷ sign_at sign.CloseBrace 6 ∷ []
+
+-- `{.. _=?1}`
+abbrev pub others_again : List Token
+others_again = sign_at sign.OpenBrace 0 ∷ sign_at sign.Dots 1 ∷ word_at "_" 4 ∷ sign_at sign.EqualQuestion 5
+    ∷ digit_at 1 7 ∷ sign_at sign.CloseBrace 8 ∷ []
 
 -- `<a x=1|2>_`
 abbrev pub union_of_attribute : List Token

@@ -238,6 +238,13 @@ applied_exprs =
     ∷ body 4 (word_at "raise" 21 ∷ word_at "x" 27 ∷ sign_at sign.Dot 28 ∷ word_at "a" 29 ∷ [])
     30 (expr_from 21 30 (code.Call built_in.Raise (chain_from 27 30 (used_at "x" 27) (code.Select
     (codes "a") ∷ []))))
+    -- `min_of x`
+    ∷ body 4 (word_at "min_of" 21 ∷ word_at "x" 28 ∷ [])
+    29 (expr_from 21 29 (code.Call built_in.MinOf (used_at "x" 28)))
+    -- `max_of x.a`
+    ∷ body 4 (word_at "max_of" 21 ∷ word_at "x" 28 ∷ sign_at sign.Dot 29 ∷ word_at "a" 30 ∷ [])
+    31 (expr_from 21 31 (code.Call built_in.MaxOf (chain_from 28 31 (used_at "x" 28) (code.Select
+    (codes "a") ∷ []))))
     ∷ []
 
 -- sequences

@@ -19,5 +19,6 @@ pub mod ExprsAt
 pub mod ProgramExamples
 pub mod PatternTexts
 pub mod ExprTexts
+pub mod QueryTexts
 pub mod ProgramTexts
 pub mod ProgramFaults

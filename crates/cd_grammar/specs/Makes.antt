@@ -1,6 +1,6 @@
 -- What is made, by name.
-use Rattle.std.specs.Prelude.{true, List, [], ◌∷◌}
-use Rattle.cd_syntax.specs.TypeTree.{NoDeclaration}
+use Rattle.std.specs.Prelude.{List, [], ◌∷◌}
+use Rattle.cd_syntax.specs.TypeTree.{NoDeclaration, Open}
 use Rattle.cd_syntax.specs.declared.tokens.Span.{Span}
 use Rattle.cd_grammar.specs.declared.make.Make.{Make}
 use Rattle.cd_grammar.specs.declared.make.Make.TheVariants as make
@@ -32,7 +32,7 @@ made_of_one one.Atom here a = trees.atom here a
 made_of_one one.Named here a = trees.named here a
 made_of_one one.Any here a = trees.any here
 made_of_one one.Label here a = trees.label here a
-made_of_one one.Others here a = SomeFields [] true
+made_of_one one.Others here a = SomeFields [] Open
 made_of_one one.Attributes here a = trees.fields here a
 made_of_one one.Item here a = trees.item a
 made_of_one one.Run here a = trees.run here a
@@ -58,7 +58,7 @@ abbrev pub made_of_two : Two → Span → (a b : Part) → Part
 made_of_two two.First here a b = a
 made_of_two two.Second here a b = b
 made_of_two two.HalfInterval here a b = trees.integers here a b
-made_of_two two.AndOthers here a b = trees.and_others a
+made_of_two two.AndOthers here a b = trees.and_others a b
 made_of_two two.NextFields here a b = trees.next_fields a b
 made_of_two two.NoFields here a b = trees.no_fields here
 made_of_two two.EmptySequence here a b = trees.empty_sequence here b
@@ -81,6 +81,10 @@ made_of_two two.NextItems here a b = programs.next_items a b
 made_of_two two.Splice here a b = programs.splice b
 made_of_two two.NoExprFields here a b = programs.no_expr_fields here
 made_of_two two.NextExprFields here a b = programs.next_expr_fields a b
+made_of_two two.Path here a b = programs.path here a b
+made_of_two two.FieldStep here a b = programs.field_step b
+made_of_two two.ChildStep here a b = programs.child_step a b
+made_of_two two.AttributeStep here a b = programs.attribute_step a b
 
 abbrev pub made_of_three : Three → Span → (a b c : Part) → Part
 made_of_three three.Between here a b c = b
@@ -97,7 +101,8 @@ made_of_three three.AndNames here a b c = trees.next_names a c
 made_of_three three.Where here a b c = trees.where_names here a c
 made_of_three (three.Field optional) here a b c = trees.field optional a c
 made_of_three three.SeparateFields here a b c = trees.next_fields a c
-made_of_three three.SeparateOthers here a b c = trees.and_others a
+made_of_three three.SeparateOthers here a b c = trees.and_others a c
+made_of_three three.TypedOthers here a b c = trees.typed_others c
 made_of_three three.Record here a b c = trees.fields here b
 made_of_three three.Sequence here a b c = trees.sequence here b
 made_of_three three.EitherRegular here a b c = trees.two_regulars a c
@@ -115,8 +120,10 @@ made_of_three (three.FirstOperand op) here a b c = programs.first_operand op a c
 made_of_three (three.NextOperand op) here a b c = programs.next_operand op a c
 made_of_three three.FirstWithout here a b c = programs.first_without a c
 made_of_three three.NextWithout here a b c = programs.next_without a c
-made_of_three three.FirstSelect here a b c = programs.first_select a c
-made_of_three three.NextSelect here a b c = programs.next_select a c
+made_of_three three.BeforeFieldStep here a b c = programs.before_field_step b c
+made_of_three three.BeforeChildStep here a b c = programs.before_child_step a b c
+made_of_three three.BeforeAttributeStep here a b c = programs.before_attribute_step a b c
+made_of_three three.Source here a b c = programs.source a c
 made_of_three three.TwoExprs here a b c = programs.two_exprs a c
 made_of_three three.NextExpr here a b c = programs.next_expr a c
 made_of_three three.TupleExpr here a b c = programs.tuple_expr here b
@@ -137,10 +144,13 @@ made_of_five five.XmlWith here a b c d e = trees.xml_with here b c e
 made_of_five five.Default here a b c d e = trees.default here b d
 made_of_five five.DeclaredFunction here a b c d e = programs.declared_function b c d e
 made_of_five five.XmlExprWith here a b c d e = programs.xml_expr_with here b c e
+made_of_five five.SourceWhere here a b c d e = programs.source_where a c e
+made_of_five five.BeforeSources here a b c d e = programs.before_sources a c e
 
 abbrev pub made_of_six : Six → Span → (a b c d e f : Part) → Part
 made_of_six six.Let here a b c d e f = programs.let_in here b d f
 made_of_six six.If here a b c d e f = programs.if_else here b d f
+made_of_six six.Selecting here a b c d e f = programs.selecting here c e
 
 -- of as many parts as it wants
 abbrev pub made : Make → Span → List Part → Part

@@ -1,11 +1,13 @@
 -- What a rule of the grammar makes.
-use Rattle.std.specs.Prelude.{Bool, List, Option, Some, None}
+use Rattle.std.specs.Prelude.{List, Option, Some, None}
 use Rattle.cd_syntax.specs.declared.tokens.Token.{Token}
 use Rattle.cd_syntax.specs.declared.type_tree.Post.{Post}
 use Rattle.cd_syntax.specs.declared.constant.Constant.{Constant}
 use Rattle.cd_syntax.specs.TypeTree.{Tree, Signed, Field, Declaration, Declarations, Regular}
+use Rattle.cd_syntax.specs.TypeTree.{Rest}
 use Rattle.cd_program.specs.Expr.{Expr, Tail, Item, Field as ExprField, Branch, Signature}
 use Rattle.cd_program.specs.Expr.{FunctionTree}
+use Rattle.cd_query.specs.Core.{Step, Source}
 
 pub data Part : Type 0 where
   AToken : Token → Part
@@ -13,8 +15,7 @@ pub data Part : Type 0 where
   ATree : Tree → Part
   Trees : List Tree → Part
   Signs : (first : Tree) → List Signed → Part
-  -- with true, other fields may stand beside these
-  SomeFields : List Field → (more : Bool) → Part
+  SomeFields : List Field → Rest → Part
   Names : List Declaration → Part
   AFile : Declarations → Part
   ARegular : Regular → Part
@@ -29,6 +30,8 @@ pub data Part : Type 0 where
   ExprFields : List ExprField → Part
   Branches : List Branch → Part
   Signatures : List Signature → Part
+  Steps : List Step → Part
+  Sources : List Source → (condition : Option Expr) → Part
   AFunction : FunctionTree → Part
   AProgram : List Declaration → List FunctionTree → Part
   -- nothing of use
@@ -51,8 +54,8 @@ abbrev pub signs_in : Part → Option (Tree × List Signed)
 signs_in (Signs first rest) = Some (first, rest)
 signs_in _ = None
 
-abbrev pub fields_in : Part → Option (List Field × Bool)
-fields_in (SomeFields all more) = Some (all, more)
+abbrev pub fields_in : Part → Option (List Field × Rest)
+fields_in (SomeFields all rest) = Some (all, rest)
 fields_in _ = None
 
 abbrev pub names_in : Part → Option (List Declaration)
@@ -102,6 +105,14 @@ branches_in _ = None
 abbrev pub signatures_in : Part → Option (List Signature)
 signatures_in (Signatures all) = Some all
 signatures_in _ = None
+
+abbrev pub steps_in : Part → Option (List Step)
+steps_in (Steps all) = Some all
+steps_in _ = None
+
+abbrev pub sources_in : Part → Option (List Source × Option Expr)
+sources_in (Sources all condition) = Some (all, condition)
+sources_in _ = None
 
 abbrev pub function_in : Part → Option FunctionTree
 function_in (AFunction is) = Some is

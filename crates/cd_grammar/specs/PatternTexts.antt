@@ -1,13 +1,13 @@
 -- Patterns as their tokens, and the trees that they write. Each is P in
 -- `let fun f (A->A) x->(let P=x in x)`, from byte 25 on, where five levels are open.
-use Rattle.std.specs.Prelude.{pos, true, false, List, [], ◌∷◌, Some, None, codes}
+use Rattle.std.specs.Prelude.{pos, List, [], ◌∷◌, Some, None, codes}
 use Rattle.cd_syntax.specs.declared.sign.Sign.TheVariants as sign
 use Rattle.cd_syntax.specs.declared.constant.Constant.TheVariants as constants
 use Rattle.cd_syntax.specs.declared.type_tree.Post.TheVariants as post
 use Rattle.cd_syntax.specs.TypeTree.{Ints, Chars, Atom, Text, Tuple, Arrows, Union, Meet}
 use Rattle.cd_syntax.specs.TypeTree.{Sequence, Record, Xml, Where, Default, Nothing, Seq, Alt}
 use Rattle.cd_syntax.specs.TypeTree.{Repeat, Capture, trees_of, signs_of, fields_of}
-use Rattle.cd_syntax.specs.TypeTree.{declarations_of, regulars_of}
+use Rattle.cd_syntax.specs.TypeTree.{declarations_of, regulars_of, Closed, Open, Typed}
 use Rattle.cd_grammar.specs.TreesAt.{sign_at, word_at, digit_at, chars_at, text_at, atom_at}
 use Rattle.cd_grammar.specs.TreesAt.{tree_from, regular_from, number_at, named_at, ints_at}
 use Rattle.cd_grammar.specs.TreesAt.{any_at, kept, taken_off, field_at, optional_at, declared_at}
@@ -146,28 +146,44 @@ abbrev pub record_patterns : List ProgramExample
 record_patterns =
     -- `{}`
     pattern 6 (sign_at sign.OpenBrace 25 ∷ sign_at sign.CloseBrace 26 ∷ [])
-    27 (tree_from 25 27 (Record (fields_of []) false))
+    27 (tree_from 25 27 (Record (fields_of []) Closed))
     -- `{..}`
     ∷ pattern 6 (sign_at sign.OpenBrace 25 ∷ sign_at sign.Dots 26 ∷ sign_at sign.CloseBrace 28 ∷ [])
-    29 (tree_from 25 29 (Record (fields_of []) true))
+    29 (tree_from 25 29 (Record (fields_of []) Open))
     -- `{a=x}`
     ∷ pattern 6 (sign_at sign.OpenBrace 25 ∷ word_at "a" 26 ∷ sign_at sign.Equal 27 ∷ word_at "x" 28
     ∷ sign_at sign.CloseBrace 29 ∷ [])
-    30 (tree_from 25 30 (Record (fields_of (field_at "a" 26 (bound_at "x" 28) ∷ [])) false))
+    30 (tree_from 25 30 (Record (fields_of (field_at "a" 26 (bound_at "x" 28) ∷ [])) Closed))
     -- `{a=x;b=?y ..}`
     ∷ pattern 6 (sign_at sign.OpenBrace 25 ∷ word_at "a" 26 ∷ sign_at sign.Equal 27 ∷ word_at "x" 28
     ∷ sign_at sign.Semicolon 29 ∷ word_at "b" 30 ∷ sign_at sign.EqualQuestion 31 ∷ word_at "y" 33
     ∷ sign_at sign.Dots 35 ∷ sign_at sign.CloseBrace 37 ∷ [])
     38 (tree_from 25 38 (Record (fields_of (field_at "a" 26 (bound_at "x" 28) ∷ optional_at "b" 30
-    (bound_at "y" 33) ∷ [])) true))
+    (bound_at "y" 33) ∷ [])) Open))
     -- `{a=x;}`
     ∷ pattern 6 (sign_at sign.OpenBrace 25 ∷ word_at "a" 26 ∷ sign_at sign.Equal 27 ∷ word_at "x" 28
     ∷ sign_at sign.Semicolon 29 ∷ sign_at sign.CloseBrace 30 ∷ [])
-    31 (tree_from 25 31 (Record (fields_of (field_at "a" 26 (bound_at "x" 28) ∷ [])) false))
+    31 (tree_from 25 31 (Record (fields_of (field_at "a" 26 (bound_at "x" 28) ∷ [])) Closed))
     -- `{a=x; ..}`
     ∷ pattern 6 (sign_at sign.OpenBrace 25 ∷ word_at "a" 26 ∷ sign_at sign.Equal 27 ∷ word_at "x" 28
     ∷ sign_at sign.Semicolon 29 ∷ sign_at sign.Dots 31 ∷ sign_at sign.CloseBrace 33 ∷ [])
-    34 (tree_from 25 34 (Record (fields_of (field_at "a" 26 (bound_at "x" 28) ∷ [])) true))
+    34 (tree_from 25 34 (Record (fields_of (field_at "a" 26 (bound_at "x" 28) ∷ [])) Open))
+    -- `{_=?A}`
+    ∷ pattern 6 (sign_at sign.OpenBrace 25 ∷ word_at "_" 26 ∷ sign_at sign.EqualQuestion 27
+    ∷ word_at "A" 29 ∷ sign_at sign.CloseBrace 30 ∷ [])
+    31 (tree_from 25 31 (Record (fields_of []) (Typed (named_at "A" 29))))
+    -- `{a=x _=?A}`
+    ∷ pattern 6 (sign_at sign.OpenBrace 25 ∷ word_at "a" 26 ∷ sign_at sign.Equal 27 ∷ word_at "x" 28
+    ∷ word_at "_" 30 ∷ sign_at sign.EqualQuestion 31 ∷ word_at "A" 33 ∷ sign_at sign.CloseBrace 34
+    ∷ [])
+    35 (tree_from 25 35 (Record (fields_of (field_at "a" 26 (bound_at "x" 28) ∷ [])) (Typed
+    (named_at "A" 33))))
+    -- `{a=x; _=?A}`
+    ∷ pattern 6 (sign_at sign.OpenBrace 25 ∷ word_at "a" 26 ∷ sign_at sign.Equal 27 ∷ word_at "x" 28
+    ∷ sign_at sign.Semicolon 29 ∷ word_at "_" 31 ∷ sign_at sign.EqualQuestion 32 ∷ word_at "A" 34
+    ∷ sign_at sign.CloseBrace 35 ∷ [])
+    36 (tree_from 25 36 (Record (fields_of (field_at "a" 26 (bound_at "x" 28) ∷ [])) (Typed
+    (named_at "A" 34))))
     ∷ []
 
 -- XML patterns
@@ -190,38 +206,58 @@ xml_patterns =
     ∷ pattern 6 (sign_at sign.Less 25 ∷ word_at "a" 26 ∷ word_at "b" 28 ∷ sign_at sign.Equal 29
     ∷ word_at "x" 30 ∷ sign_at sign.Greater 31 ∷ word_at "y" 32 ∷ [])
     33 (tree_from 25 33 (Xml (tree_from 26 27 (Atom (codes "a"))) (tree_from 28 31 (Record
-    (fields_of (field_at "b" 28 (bound_at "x" 30) ∷ [])) false)) (bound_at "y" 32)))
+    (fields_of (field_at "b" 28 (bound_at "x" 30) ∷ [])) Closed)) (bound_at "y" 32)))
     -- `<a b=x;c=?y ..>z`
     ∷ pattern 6 (sign_at sign.Less 25 ∷ word_at "a" 26 ∷ word_at "b" 28 ∷ sign_at sign.Equal 29
     ∷ word_at "x" 30 ∷ sign_at sign.Semicolon 31 ∷ word_at "c" 32 ∷ sign_at sign.EqualQuestion 33
     ∷ word_at "y" 35 ∷ sign_at sign.Dots 37 ∷ sign_at sign.Greater 39 ∷ word_at "z" 40 ∷ [])
     41 (tree_from 25 41 (Xml (tree_from 26 27 (Atom (codes "a"))) (tree_from 28 39 (Record
     (fields_of (field_at "b" 28 (bound_at "x" 30) ∷ optional_at "c" 32 (bound_at "y" 35) ∷ []))
-    true)) (bound_at "z" 40)))
+    Open)) (bound_at "z" 40)))
     -- `<a b=x c=y;>z`
     ∷ pattern 6 (sign_at sign.Less 25 ∷ word_at "a" 26 ∷ word_at "b" 28 ∷ sign_at sign.Equal 29
     ∷ word_at "x" 30 ∷ word_at "c" 32 ∷ sign_at sign.Equal 33 ∷ word_at "y" 34
     ∷ sign_at sign.Semicolon 35 ∷ sign_at sign.Greater 36 ∷ word_at "z" 37 ∷ [])
     38 (tree_from 25 38 (Xml (tree_from 26 27 (Atom (codes "a"))) (tree_from 28 36 (Record
-    (fields_of (field_at "b" 28 (bound_at "x" 30) ∷ field_at "c" 32 (bound_at "y" 34) ∷ [])) false))
+    (fields_of (field_at "b" 28 (bound_at "x" 30) ∷ field_at "c" 32 (bound_at "y" 34) ∷ [])) Closed))
     (bound_at "z" 37)))
     -- `<a ..>x`
     ∷ pattern 6 (sign_at sign.Less 25 ∷ word_at "a" 26 ∷ sign_at sign.Dots 28
     ∷ sign_at sign.Greater 30 ∷ word_at "x" 31 ∷ [])
     32 (tree_from 25 32 (Xml (tree_from 26 27 (Atom (codes "a"))) (tree_from 28 30 (Record
-    (fields_of []) true)) (bound_at "x" 31)))
+    (fields_of []) Open)) (bound_at "x" 31)))
     -- `<a b=x; ..>y`
     ∷ pattern 6 (sign_at sign.Less 25 ∷ word_at "a" 26 ∷ word_at "b" 28 ∷ sign_at sign.Equal 29
     ∷ word_at "x" 30 ∷ sign_at sign.Semicolon 31 ∷ sign_at sign.Dots 33 ∷ sign_at sign.Greater 35
     ∷ word_at "y" 36 ∷ [])
     37 (tree_from 25 37 (Xml (tree_from 26 27 (Atom (codes "a"))) (tree_from 28 35 (Record
-    (fields_of (field_at "b" 28 (bound_at "x" 30) ∷ [])) true)) (bound_at "y" 36)))
+    (fields_of (field_at "b" 28 (bound_at "x" 30) ∷ [])) Open)) (bound_at "y" 36)))
     -- `<a (r)>x`
     ∷ pattern 7 (sign_at sign.Less 25 ∷ word_at "a" 26 ∷ sign_at sign.OpenParenthesis 28
     ∷ word_at "r" 29 ∷ sign_at sign.CloseParenthesis 30 ∷ sign_at sign.Greater 31 ∷ word_at "x" 32
     ∷ [])
     33 (tree_from 25 33 (Xml (tree_from 26 27 (Atom (codes "a"))) (bound_at "r" 29)
     (bound_at "x" 32)))
+    -- `<a _=?A>x`
+    ∷ pattern 6 (sign_at sign.Less 25 ∷ word_at "a" 26 ∷ word_at "_" 28
+    ∷ sign_at sign.EqualQuestion 29 ∷ word_at "A" 31 ∷ sign_at sign.Greater 32 ∷ word_at "x" 33
+    ∷ [])
+    34 (tree_from 25 34 (Xml (tree_from 26 27 (Atom (codes "a"))) (tree_from 28 32 (Record
+    (fields_of []) (Typed (named_at "A" 31)))) (bound_at "x" 33)))
+    -- `<a b=x _=?A>y`
+    ∷ pattern 6 (sign_at sign.Less 25 ∷ word_at "a" 26 ∷ word_at "b" 28 ∷ sign_at sign.Equal 29
+    ∷ word_at "x" 30 ∷ word_at "_" 32 ∷ sign_at sign.EqualQuestion 33 ∷ word_at "A" 35
+    ∷ sign_at sign.Greater 36 ∷ word_at "y" 37 ∷ [])
+    38 (tree_from 25 38 (Xml (tree_from 26 27 (Atom (codes "a"))) (tree_from 28 36 (Record
+    (fields_of (field_at "b" 28 (bound_at "x" 30) ∷ [])) (Typed (named_at "A" 35))))
+    (bound_at "y" 37)))
+    -- `<a b=x; _=?A>y`
+    ∷ pattern 6 (sign_at sign.Less 25 ∷ word_at "a" 26 ∷ word_at "b" 28 ∷ sign_at sign.Equal 29
+    ∷ word_at "x" 30 ∷ sign_at sign.Semicolon 31 ∷ word_at "_" 33 ∷ sign_at sign.EqualQuestion 34
+    ∷ word_at "A" 36 ∷ sign_at sign.Greater 37 ∷ word_at "y" 38 ∷ [])
+    39 (tree_from 25 39 (Xml (tree_from 26 27 (Atom (codes "a"))) (tree_from 28 37 (Record
+    (fields_of (field_at "b" 28 (bound_at "x" 30) ∷ [])) (Typed (named_at "A" 36))))
+    (bound_at "y" 38)))
     ∷ []
 
 -- sequences: a variable has the items of what stands after it

@@ -9,13 +9,16 @@ use Rattle.cd_program.specs.declared.operator.BuiltIn.{BuiltIn}
 use Rattle.cd_program.specs.declared.operator.Form.{Form}
 use Rattle.cd_program.specs.Expr.{Expr, expr, Constant, Variable, Tuple, Sequence, Record, Xml}
 use Rattle.cd_program.specs.Expr.{Function, Apply, Let, If, Chain, Call, One, Splice, Run}
-use Rattle.cd_program.specs.Expr.{Operand, Without, Select, FunctionTree, function, Branch}
+use Rattle.cd_program.specs.Expr.{Operand, Without, FunctionTree, function, Branch}
 use Rattle.cd_program.specs.Expr.{Signature}
 use Rattle.cd_program.specs.Expr.{exprs_of, items_of, fields_of, tails_of, branches_of, of_form}
+use Rattle.cd_query.specs.Core as queries
+use Rattle.cd_query.specs.Core.{Step, ToField, ToChild, ToAttribute}
 use Rattle.cd_grammar.specs.Parts.{Part, AnExpr, Exprs, AChain, Items, ExprFields, Branches}
-use Rattle.cd_grammar.specs.Parts.{Signatures, AFunction, AProgram, token_in, tree_in}
+use Rattle.cd_grammar.specs.Parts.{Signatures, Steps, Sources, AFunction, AProgram, token_in, tree_in}
 use Rattle.cd_grammar.specs.Parts.{names_in, expr_in, exprs_in, chain_in, items_in, expr_fields_in}
-use Rattle.cd_grammar.specs.Parts.{branches_in, signatures_in, function_in, program_in}
+use Rattle.cd_grammar.specs.Parts.{branches_in, signatures_in, steps_in, sources_in, function_in}
+use Rattle.cd_grammar.specs.Parts.{program_in}
 use Rattle.cd_grammar.specs.Parts.{of_one, of_two, of_three, of_four}
 use Rattle.cd_grammar.specs.Actions.{name_in, characters_in, constant_of}
 
@@ -63,21 +66,72 @@ next_without chain label =
     of_two (chain_in chain) (token_in label)
     (λ all word. AChain all.0 (all.1 ++ Without (name_in word.kind) ∷ []))
 
-abbrev pub first_select : Part → Part → Part
-first_select first label =
-    of_two (expr_in first) (token_in label)
-    (λ one word. AChain one (Select (name_in word.kind) ∷ []))
-
-abbrev pub next_select : Part → Part → Part
-next_select chain label =
-    of_two (chain_in chain) (token_in label)
-    (λ all word. AChain all.0 (all.1 ++ Select (name_in word.kind) ∷ []))
-
 abbrev pub chain : Span → Part → Part
 chain here is = of_one (chain_in is) (λ all. AnExpr (expr here (Chain all.0 (tails_of all.1))))
 
 abbrev pub call : BuiltIn → Span → Part → Part
 call word here is = of_one (expr_in is) (λ one. AnExpr (expr here (Call word one)))
+
+-- steps of a path: one, and one before others
+abbrev pub to_field : (word : Token) → Step
+to_field word = ToField word.span (name_in word.kind)
+
+abbrev pub to_child : (sign word : Token) → Step
+to_child sign word = ToChild sign.span word.span (name_in word.kind)
+
+abbrev pub to_attribute : (sign word : Token) → Step
+to_attribute sign word = ToAttribute sign.span word.span (name_in word.kind)
+
+abbrev pub field_step : Part → Part
+field_step label = of_one (token_in label) (λ word. Steps (to_field word ∷ []))
+
+abbrev pub child_step : Part → Part → Part
+child_step sign label =
+    of_two (token_in sign) (token_in label) (λ slash word. Steps (to_child slash word ∷ []))
+
+abbrev pub attribute_step : Part → Part → Part
+attribute_step sign label =
+    of_two (token_in sign) (token_in label) (λ slash word. Steps (to_attribute slash word ∷ []))
+
+abbrev pub before_field_step : Part → Part → Part
+before_field_step label steps =
+    of_two (token_in label) (steps_in steps) (λ word all. Steps (to_field word ∷ all))
+
+abbrev pub before_child_step : Part → Part → Part → Part
+before_child_step sign label steps =
+    of_three (token_in sign) (token_in label) (steps_in steps)
+    (λ slash word all. Steps (to_child slash word ∷ all))
+
+abbrev pub before_attribute_step : Part → Part → Part → Part
+before_attribute_step sign label steps =
+    of_three (token_in sign) (token_in label) (steps_in steps)
+    (λ slash word all. Steps (to_attribute slash word ∷ all))
+
+abbrev pub path : Span → Part → Part → Part
+path here first steps =
+    of_two (expr_in first) (steps_in steps)
+    (λ one all. AnExpr (queries.path here here one [] all))
+
+-- sources of a select
+abbrev pub source : Part → Part → Part
+source pattern value =
+    of_two (tree_in pattern) (expr_in value)
+    (λ takes one. Sources (record { pattern = takes; value = one } ∷ []) None)
+
+abbrev pub source_where : (pattern value condition : Part) → Part
+source_where pattern value condition =
+    of_three (tree_in pattern) (expr_in value) (expr_in condition)
+    (λ takes one test. Sources (record { pattern = takes; value = one } ∷ []) (Some test))
+
+abbrev pub before_sources : (pattern value sources : Part) → Part
+before_sources pattern value sources =
+    of_three (tree_in pattern) (expr_in value) (sources_in sources)
+    (λ takes one all. Sources (record { pattern = takes; value = one } ∷ all.0) all.1)
+
+abbrev pub selecting : Span → (head sources : Part) → Part
+selecting here head sources =
+    of_two (expr_in head) (sources_in sources)
+    (λ one all. AnExpr (queries.select here all.0 all.1 one))
 
 -- sequences
 abbrev pub run_item : Part → Part

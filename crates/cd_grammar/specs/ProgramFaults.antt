@@ -181,6 +181,33 @@ wrong_exprs =
     ∷ word_at "A" 11 ∷ sign_at sign.Arrow 12 ∷ word_at "A" 14 ∷ sign_at sign.CloseParenthesis 15
     ∷ word_at "x" 17 ∷ sign_at sign.Arrow 18 ∷ word_at "x" 20 ∷ sign_at sign.ColonColon 21
     ∷ word_at "y" 23 ∷ [])
+    -- `let fun f (A->A) x->x/ @a`
+    ∷ wrong 12 (word_at "let" 0 ∷ word_at "fun" 4 ∷ word_at "f" 8 ∷ sign_at sign.OpenParenthesis 10
+    ∷ word_at "A" 11 ∷ sign_at sign.Arrow 12 ∷ word_at "A" 14 ∷ sign_at sign.CloseParenthesis 15
+    ∷ word_at "x" 17 ∷ sign_at sign.Arrow 18 ∷ word_at "x" 20 ∷ sign_at sign.Slash 21
+    ∷ sign_at sign.At 23 ∷ word_at "a" 24 ∷ [])
+    -- `let fun f (A->A) x->x/1`
+    ∷ wrong 12 (word_at "let" 0 ∷ word_at "fun" 4 ∷ word_at "f" 8 ∷ sign_at sign.OpenParenthesis 10
+    ∷ word_at "A" 11 ∷ sign_at sign.Arrow 12 ∷ word_at "A" 14 ∷ sign_at sign.CloseParenthesis 15
+    ∷ word_at "x" 17 ∷ sign_at sign.Arrow 18 ∷ word_at "x" 20 ∷ sign_at sign.Slash 21
+    ∷ digit_at 1 22 ∷ [])
+    -- `let fun f (A->A) x->select x from y in x`
+    ∷ wrong 10 (word_at "let" 0 ∷ word_at "fun" 4 ∷ word_at "f" 8 ∷ sign_at sign.OpenParenthesis 10
+    ∷ word_at "A" 11 ∷ sign_at sign.Arrow 12 ∷ word_at "A" 14 ∷ sign_at sign.CloseParenthesis 15
+    ∷ word_at "x" 17 ∷ sign_at sign.Arrow 18 ∷ word_at "select" 20 ∷ word_at "x" 27
+    ∷ word_at "from" 29 ∷ word_at "y" 34 ∷ word_at "in" 36 ∷ word_at "x" 39 ∷ [])
+    -- `let fun f (A->A) x->(select x from y)`
+    ∷ wrong 15 (word_at "let" 0 ∷ word_at "fun" 4 ∷ word_at "f" 8 ∷ sign_at sign.OpenParenthesis 10
+    ∷ word_at "A" 11 ∷ sign_at sign.Arrow 12 ∷ word_at "A" 14 ∷ sign_at sign.CloseParenthesis 15
+    ∷ word_at "x" 17 ∷ sign_at sign.Arrow 18 ∷ sign_at sign.OpenParenthesis 20 ∷ word_at "select" 21
+    ∷ word_at "x" 28 ∷ word_at "from" 30 ∷ word_at "y" 35 ∷ sign_at sign.CloseParenthesis 36 ∷ [])
+    -- `let fun f (A->A) x->(select x from y in x where y, z in x)`
+    ∷ wrong 19 (word_at "let" 0 ∷ word_at "fun" 4 ∷ word_at "f" 8 ∷ sign_at sign.OpenParenthesis 10
+    ∷ word_at "A" 11 ∷ sign_at sign.Arrow 12 ∷ word_at "A" 14 ∷ sign_at sign.CloseParenthesis 15
+    ∷ word_at "x" 17 ∷ sign_at sign.Arrow 18 ∷ sign_at sign.OpenParenthesis 20 ∷ word_at "select" 21
+    ∷ word_at "x" 28 ∷ word_at "from" 30 ∷ word_at "y" 35 ∷ word_at "in" 37 ∷ word_at "x" 40
+    ∷ word_at "where" 42 ∷ word_at "y" 48 ∷ sign_at sign.Comma 49 ∷ word_at "z" 51 ∷ word_at "in" 53
+    ∷ word_at "x" 56 ∷ sign_at sign.CloseParenthesis 57 ∷ [])
     ∷ []
 
 -- programs that are begun
@@ -272,4 +299,13 @@ begun_exprs =
     ∷ word_at "x" 17 ∷ sign_at sign.Arrow 18 ∷ word_at "fun" 20 ∷ sign_at sign.OpenParenthesis 24
     ∷ word_at "A" 25 ∷ sign_at sign.Arrow 26 ∷ word_at "A" 28 ∷ sign_at sign.CloseParenthesis 29
     ∷ [])
+    -- `let fun f (A->A) x->x/`
+    ∷ (word_at "let" 0 ∷ word_at "fun" 4 ∷ word_at "f" 8 ∷ sign_at sign.OpenParenthesis 10
+    ∷ word_at "A" 11 ∷ sign_at sign.Arrow 12 ∷ word_at "A" 14 ∷ sign_at sign.CloseParenthesis 15
+    ∷ word_at "x" 17 ∷ sign_at sign.Arrow 18 ∷ word_at "x" 20 ∷ sign_at sign.Slash 21 ∷ [])
+    -- `let fun f (A->A) x->(select x from y in x`
+    ∷ (word_at "let" 0 ∷ word_at "fun" 4 ∷ word_at "f" 8 ∷ sign_at sign.OpenParenthesis 10
+    ∷ word_at "A" 11 ∷ sign_at sign.Arrow 12 ∷ word_at "A" 14 ∷ sign_at sign.CloseParenthesis 15
+    ∷ word_at "x" 17 ∷ sign_at sign.Arrow 18 ∷ sign_at sign.OpenParenthesis 20 ∷ word_at "select" 21
+    ∷ word_at "x" 28 ∷ word_at "from" 30 ∷ word_at "y" 35 ∷ word_at "in" 37 ∷ word_at "x" 40 ∷ [])
     ∷ []

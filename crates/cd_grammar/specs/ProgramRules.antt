@@ -17,17 +17,21 @@ use Rattle.cd_grammar.specs.declared.make.Two.TheVariants.{NextType, NextFunctio
 use Rattle.cd_grammar.specs.declared.make.Two.TheVariants.{NextBranches, Call, Applied}
 use Rattle.cd_grammar.specs.declared.make.Two.TheVariants.{NextApplied, NoItems, NoExprFields}
 use Rattle.cd_grammar.specs.declared.make.Two.TheVariants.{NextItems, Splice, NextExprFields}
+use Rattle.cd_grammar.specs.declared.make.Two.TheVariants.{Path, FieldStep, ChildStep}
+use Rattle.cd_grammar.specs.declared.make.Two.TheVariants.{AttributeStep}
 use Rattle.cd_grammar.specs.declared.make.Three.TheVariants.{Between, SeparateSignatures}
 use Rattle.cd_grammar.specs.declared.make.Three.TheVariants.{Signature, Branch, UnnamedFunction}
 use Rattle.cd_grammar.specs.declared.make.Three.TheVariants.{FirstOperand, NextOperand}
 use Rattle.cd_grammar.specs.declared.make.Three.TheVariants.{FirstWithout, NextWithout}
-use Rattle.cd_grammar.specs.declared.make.Three.TheVariants.{FirstSelect, NextSelect, TupleExpr}
+use Rattle.cd_grammar.specs.declared.make.Three.TheVariants.{BeforeFieldStep, BeforeChildStep}
+use Rattle.cd_grammar.specs.declared.make.Three.TheVariants.{BeforeAttributeStep, TupleExpr}
 use Rattle.cd_grammar.specs.declared.make.Three.TheVariants.{SequenceExpr, RecordExpr, TwoExprs}
 use Rattle.cd_grammar.specs.declared.make.Three.TheVariants.{NextExpr, SeparateExprFields}
-use Rattle.cd_grammar.specs.declared.make.Three.TheVariants.{ExprField}
+use Rattle.cd_grammar.specs.declared.make.Three.TheVariants.{ExprField, Source}
 use Rattle.cd_grammar.specs.declared.make.Four.TheVariants.{Matching, NamedFunction, XmlExpr}
 use Rattle.cd_grammar.specs.declared.make.Five.TheVariants.{DeclaredFunction, XmlExprWith}
-use Rattle.cd_grammar.specs.declared.make.Six.TheVariants.{Let, If}
+use Rattle.cd_grammar.specs.declared.make.Five.TheVariants.{SourceWhere, BeforeSources}
+use Rattle.cd_grammar.specs.declared.make.Six.TheVariants.{Let, If, Selecting}
 use Rattle.cd_grammar.specs.Bnf.{Line, ◌⟼◌}
 
 abbrev pub program_lines : List Line
@@ -117,34 +121,37 @@ program_lines =
     ∷ "Prods = Prods '* App" ⟼ Three (NextOperand op.Times)
     ∷ "Prods = Prods 'div App" ⟼ Three (NextOperand op.Div)
     ∷ "Prods = Prods 'mod App" ⟼ Three (NextOperand op.Mod)
-    -- App = ( "not" | "flatten" | "int_of" | "string_of" | "raise" ) Post
+    -- App = ( "not" | "flatten" | "int_of" | "string_of" | "min_of" | "max_of" | "raise" ) Post
     --     | Post { Post }             a further Post doesn't begin with "<"
     ∷ "App = 'not Post" ⟼ Two (Call built_in.Not)
     ∷ "App = 'flatten Post" ⟼ Two (Call built_in.Flatten)
     ∷ "App = 'int_of Post" ⟼ Two (Call built_in.IntOf)
     ∷ "App = 'string_of Post" ⟼ Two (Call built_in.StringOf)
+    ∷ "App = 'min_of Post" ⟼ Two (Call built_in.MinOf)
+    ∷ "App = 'max_of Post" ⟼ Two (Call built_in.MaxOf)
     ∷ "App = 'raise Post" ⟼ Two (Call built_in.Raise)
     ∷ "App = Post" ⟼ One That
     ∷ "App = Posts" ⟼ One Apply
     ∷ "Posts = Post NPost" ⟼ Two Applied
     ∷ "Posts = Posts NPost" ⟼ Two NextApplied
-    -- Post = Base { "." Label }; an NPost begins with no "<", a CPost with no Chars
+    -- Post = Base [ Steps ]; an NPost begins with no "<", a CPost with no Chars
     ∷ "Post = Base" ⟼ One That
-    ∷ "Post = Selects" ⟼ One Chain
-    ∷ "Selects = Base '. Label" ⟼ Three FirstSelect
-    ∷ "Selects = Selects '. Label" ⟼ Three NextSelect
+    ∷ "Post = Base Steps" ⟼ Two Path
     ∷ "NPost = NBase" ⟼ One That
-    ∷ "NPost = NSelects" ⟼ One Chain
-    ∷ "NSelects = NBase '. Label" ⟼ Three FirstSelect
-    ∷ "NSelects = NSelects '. Label" ⟼ Three NextSelect
+    ∷ "NPost = NBase Steps" ⟼ Two Path
     ∷ "CPost = CBase" ⟼ One That
-    ∷ "CPost = CSelects" ⟼ One Chain
-    ∷ "CSelects = CBase '. Label" ⟼ Three FirstSelect
-    ∷ "CSelects = CSelects '. Label" ⟼ Three NextSelect
+    ∷ "CPost = CBase Steps" ⟼ Two Path
+    -- Steps = "." Label [ Steps ] | "/" Label [ Steps ] | "/@" Label [ Steps ]
+    ∷ "Steps = '. Label" ⟼ Two FieldStep
+    ∷ "Steps = '. Label Steps" ⟼ Three BeforeFieldStep
+    ∷ "Steps = ^/ Label" ⟼ Two ChildStep
+    ∷ "Steps = ^/ Label Steps" ⟼ Three BeforeChildStep
+    ∷ "Steps = ^/@ Label" ⟼ Two AttributeStep
+    ∷ "Steps = ^/@ Label Steps" ⟼ Three BeforeAttributeStep
     -- Base = Int | Chars of one character | Text | Atom | Variable
     --      | "(" Expr { "," Expr } ")" | "[" { Item } "]"
     --      | "{" [ Label "=" Expr { ";" Label "=" Expr } [ ";" ] ] "}"
-    --      | "<" ETag EAttrs ">" Base
+    --      | "<" ETag EAttrs ">" Base | "(" "select" Expr "from" Sources ")"
     ∷ "Base = Char1" ⟼ One ConstantExpr
     ∷ "Base = CBase" ⟼ One That
     ∷ "NBase = Char1" ⟼ One ConstantExpr
@@ -162,6 +169,11 @@ program_lines =
     ∷ "Core = ^[ Items ']" ⟼ Three SequenceExpr
     ∷ "Core = ^{ '}" ⟼ Two NoExprFields
     ∷ "Core = ^{ EFields '}" ⟼ Three RecordExpr
+    ∷ "Core = ^( 'select Expr 'from Sources ')" ⟼ Six Selecting
+    -- Sources = Union "in" Or [ "," Sources | "where" Or ]
+    ∷ "Sources = Union' ^in Or" ⟼ Three Source
+    ∷ "Sources = Union' ^in Or 'where Or" ⟼ Five SourceWhere
+    ∷ "Sources = Union' ^in Or ', Sources" ⟼ Five BeforeSources
     ∷ "Exprs = Expr ', Expr" ⟼ Three TwoExprs
     ∷ "Exprs = Exprs ', Expr" ⟼ Three NextExpr
     -- Item = Chars of any number | "!" Post | a Post that begins with no Chars

@@ -16,14 +16,15 @@ abbrev pub terminals : List (List ℕ)
 terminals =
     codes "'*--" ∷ codes "'--*" ∷ codes "'*?" ∷ codes "'+?" ∷ codes "'??" ∷ codes "'=?" ∷
     codes "'--" ∷ codes "'->" ∷ codes "'::" ∷ codes "':=" ∷ codes "'.." ∷ codes "'!=" ∷
-    codes "'<=" ∷ codes "'>=" ∷ codes "'&&" ∷ codes "'||" ∷ codes "';;" ∷ codes "'(" ∷
+    codes "'<=" ∷ codes "'>=" ∷ codes "'&&" ∷ codes "'||" ∷ codes "';;" ∷ codes "'/@" ∷ codes "'(" ∷
     codes "')" ∷ codes "'[" ∷ codes "']" ∷ codes "'{" ∷ codes "'}" ∷ codes "'<" ∷ codes "'>" ∷
     codes "'=" ∷ codes "'?" ∷ codes "'*" ∷ codes "'+" ∷ codes "'-" ∷ codes "'\\" ∷ codes "'|" ∷
-    codes "'&" ∷ codes "'," ∷ codes "';" ∷ codes "'." ∷ codes "'!" ∷ codes "'@" ∷ codes "'_" ∷
+    codes "'&" ∷ codes "'," ∷ codes "';" ∷ codes "'." ∷ codes "'/" ∷ codes "'!" ∷ codes "'@" ∷ codes "'_" ∷
     codes "'type" ∷ codes "'let" ∷ codes "'fun" ∷ codes "'in" ∷ codes "'match" ∷ codes "'with" ∷
     codes "'if" ∷ codes "'then" ∷ codes "'else" ∷ codes "'try" ∷ codes "'map" ∷
     codes "'transform" ∷ codes "'where" ∷ codes "'and" ∷ codes "'div" ∷ codes "'mod" ∷
-    codes "'not" ∷ codes "'flatten" ∷ codes "'int_of" ∷ codes "'string_of" ∷ codes "'raise" ∷
+    codes "'not" ∷ codes "'flatten" ∷ codes "'int_of" ∷ codes "'string_of" ∷ codes "'min_of" ∷
+    codes "'max_of" ∷ codes "'raise" ∷ codes "'select" ∷ codes "'from" ∷
     codes "Int" ∷ codes "Char1" ∷ codes "CharN" ∷ codes "Text" ∷ codes "Atom" ∷ codes "TypeName" ∷
     codes "Variable" ∷ codes "TypeText" ∷ codes "TypeFile" ∷ codes "ProgramText" ∷ codes "$" ∷ []
 
@@ -35,9 +36,9 @@ abbrev pub tree_names : List (List ℕ)
 tree_names =
     codes "Tree~" ∷ codes "Names~" ∷ codes "Name~" ∷ codes "Arrow~" ∷ codes "Arrows~" ∷
     codes "Union~" ∷ codes "Meets~" ∷ codes "Meet~" ∷ codes "Signs~" ∷ codes "Simple~" ∷
-    codes "Paren~" ∷ codes "Trees~" ∷ codes "Bare~" ∷ codes "Fields~" ∷ codes "FieldList~" ∷
-    codes "Field~" ∷ codes "Tag~" ∷ codes "Attrs~" ∷ codes "AttrFields~" ∷ codes "AttrList~" ∷
-    codes "Attr~" ∷ codes "Reg~" ∷ codes "Alts~" ∷ codes "RSeq~" ∷ codes "RPosts~" ∷
+    codes "Paren~" ∷ codes "Trees~" ∷ codes "Bare~" ∷ codes "Fields~" ∷ codes "Others~" ∷
+    codes "FieldList~" ∷ codes "Field~" ∷ codes "Tag~" ∷ codes "Attrs~" ∷ codes "AttrFields~" ∷
+    codes "AttrOthers~" ∷ codes "AttrList~" ∷ codes "Attr~" ∷ codes "Reg~" ∷ codes "Alts~" ∷ codes "RSeq~" ∷ codes "RPosts~" ∷
     codes "RPost~" ∷ codes "RItem~" ∷ codes "Group~" ∷ codes "GReg~" ∷ codes "GAlts~" ∷
     codes "GSeq~" ∷ codes "GPosts~" ∷ codes "GItem~" ∷ codes "IItem~" ∷ codes "ISigns~" ∷
     codes "IBase~" ∷ codes "Own~" ∷ codes "ITrees~" ∷ codes "ITree~" ∷ codes "OwnTree~" ∷
@@ -58,7 +59,7 @@ program_names =
     codes "Last" ∷ codes "Expr" ∷ codes "Body" ∷ codes "Or" ∷ codes "Ors" ∷ codes "And" ∷
     codes "Ands" ∷ codes "Cmp" ∷ codes "Compared" ∷ codes "Cat" ∷ codes "Cats" ∷ codes "Sum" ∷
     codes "Sums" ∷ codes "Prod" ∷ codes "Prods" ∷ codes "App" ∷ codes "Posts" ∷ codes "Post" ∷
-    codes "Selects" ∷ codes "NPost" ∷ codes "NSelects" ∷ codes "CPost" ∷ codes "CSelects" ∷
+    codes "NPost" ∷ codes "CPost" ∷ codes "Steps" ∷ codes "Sources" ∷
     codes "Base" ∷ codes "NBase" ∷ codes "CBase" ∷ codes "Core" ∷ codes "Exprs" ∷ codes "Items" ∷
     codes "Item" ∷ codes "EFields" ∷ codes "ERow" ∷ codes "EField" ∷ codes "ETag" ∷
     codes "EAttrs" ∷ codes "EAttrFields" ∷ codes "EAttrList" ∷ codes "EAttr" ∷ []

@@ -10,23 +10,23 @@ rule_0 = rule 0 (Nonterminal 1 ∷ [])
 
 -- Start = TypeText Tree
 abbrev pub rule_1 : Rule
-rule_1 = rule 1 (Terminal 0 67 ∷ Nonterminal 5 ∷ [])
+rule_1 = rule 1 (Terminal 0 73 ∷ Nonterminal 5 ∷ [])
 
 -- Start = TypeFile
 abbrev pub rule_2 : Rule
-rule_2 = rule 1 (Terminal 0 68 ∷ [])
+rule_2 = rule 1 (Terminal 0 74 ∷ [])
 
 -- Start = TypeFile Types
 abbrev pub rule_3 : Rule
-rule_3 = rule 1 (Terminal 0 68 ∷ Nonterminal 2 ∷ [])
+rule_3 = rule 1 (Terminal 0 74 ∷ Nonterminal 2 ∷ [])
 
 -- Start = ProgramText
 abbrev pub rule_4 : Rule
-rule_4 = rule 1 (Terminal 0 69 ∷ [])
+rule_4 = rule 1 (Terminal 0 75 ∷ [])
 
 -- Start = ProgramText Decls
 abbrev pub rule_5 : Rule
-rule_5 = rule 1 (Terminal 0 69 ∷ Nonterminal 97 ∷ [])
+rule_5 = rule 1 (Terminal 0 75 ∷ Nonterminal 101 ∷ [])
 
 -- Types = Type
 abbrev pub rule_6 : Rule
@@ -46,7 +46,7 @@ rule_9 = rule 3 (Nonterminal 4 ∷ Terminal 0 16 ∷ [])
 
 -- Declared = 'type TypeName '= Tree
 abbrev pub rule_10 : Rule
-rule_10 = rule 4 (Terminal 0 39 ∷ Terminal 0 65 ∷ Terminal 0 25 ∷ Nonterminal 5 ∷ [])
+rule_10 = rule 4 (Terminal 0 41 ∷ Terminal 0 71 ∷ Terminal 0 26 ∷ Nonterminal 5 ∷ [])
 
 -- Tree = Arrow
 abbrev pub rule_11 : Rule
@@ -54,7 +54,7 @@ rule_11 = rule 5 (Nonterminal 8 ∷ [])
 
 -- Tree = Arrow 'where Names
 abbrev pub rule_12 : Rule
-rule_12 = rule 5 (Nonterminal 8 ∷ Terminal 0 51 ∷ Nonterminal 6 ∷ [])
+rule_12 = rule 5 (Nonterminal 8 ∷ Terminal 0 53 ∷ Nonterminal 6 ∷ [])
 
 -- Names = Name
 abbrev pub rule_13 : Rule
@@ -62,11 +62,11 @@ rule_13 = rule 6 (Nonterminal 7 ∷ [])
 
 -- Names = Names 'and Name
 abbrev pub rule_14 : Rule
-rule_14 = rule 6 (Nonterminal 6 ∷ Terminal 0 52 ∷ Nonterminal 7 ∷ [])
+rule_14 = rule 6 (Nonterminal 6 ∷ Terminal 0 54 ∷ Nonterminal 7 ∷ [])
 
 -- Name = TypeName '= Arrow
 abbrev pub rule_15 : Rule
-rule_15 = rule 7 (Terminal 0 65 ∷ Terminal 0 25 ∷ Nonterminal 8 ∷ [])
+rule_15 = rule 7 (Terminal 0 71 ∷ Terminal 0 26 ∷ Nonterminal 8 ∷ [])
 
 -- Arrow = Union
 abbrev pub rule_16 : Rule
@@ -94,11 +94,11 @@ rule_21 = rule 10 (Nonterminal 11 ∷ [])
 
 -- Meets = Meet '| Meet
 abbrev pub rule_22 : Rule
-rule_22 = rule 11 (Nonterminal 12 ∷ Terminal 0 31 ∷ Nonterminal 12 ∷ [])
+rule_22 = rule 11 (Nonterminal 12 ∷ Terminal 0 32 ∷ Nonterminal 12 ∷ [])
 
 -- Meets = Meets '| Meet
 abbrev pub rule_23 : Rule
-rule_23 = rule 11 (Nonterminal 11 ∷ Terminal 0 31 ∷ Nonterminal 12 ∷ [])
+rule_23 = rule 11 (Nonterminal 11 ∷ Terminal 0 32 ∷ Nonterminal 12 ∷ [])
 
 -- Meet = Simple
 abbrev pub rule_24 : Rule
@@ -110,19 +110,19 @@ rule_25 = rule 12 (Nonterminal 13 ∷ [])
 
 -- Signs = Simple '& Simple
 abbrev pub rule_26 : Rule
-rule_26 = rule 13 (Nonterminal 14 ∷ Terminal 0 32 ∷ Nonterminal 14 ∷ [])
+rule_26 = rule 13 (Nonterminal 14 ∷ Terminal 0 33 ∷ Nonterminal 14 ∷ [])
 
 -- Signs = Simple '\ Simple
 abbrev pub rule_27 : Rule
-rule_27 = rule 13 (Nonterminal 14 ∷ Terminal 0 30 ∷ Nonterminal 14 ∷ [])
+rule_27 = rule 13 (Nonterminal 14 ∷ Terminal 0 31 ∷ Nonterminal 14 ∷ [])
 
 -- Signs = Signs '& Simple
 abbrev pub rule_28 : Rule
-rule_28 = rule 13 (Nonterminal 13 ∷ Terminal 0 32 ∷ Nonterminal 14 ∷ [])
+rule_28 = rule 13 (Nonterminal 13 ∷ Terminal 0 33 ∷ Nonterminal 14 ∷ [])
 
 -- Signs = Signs '\ Simple
 abbrev pub rule_29 : Rule
-rule_29 = rule 13 (Nonterminal 13 ∷ Terminal 0 30 ∷ Nonterminal 14 ∷ [])
+rule_29 = rule 13 (Nonterminal 13 ∷ Terminal 0 31 ∷ Nonterminal 14 ∷ [])
 
 -- Simple = Bare
 abbrev pub rule_30 : Rule
@@ -134,1572 +134,1647 @@ rule_31 = rule 14 (Nonterminal 15 ∷ [])
 
 -- Paren = ^( Tree ')
 abbrev pub rule_32 : Rule
-rule_32 = rule 15 (Terminal 1 17 ∷ Nonterminal 5 ∷ Terminal 0 18 ∷ [])
+rule_32 = rule 15 (Terminal 1 18 ∷ Nonterminal 5 ∷ Terminal 0 19 ∷ [])
 
 -- Paren = ^( Trees ')
 abbrev pub rule_33 : Rule
-rule_33 = rule 15 (Terminal 1 17 ∷ Nonterminal 16 ∷ Terminal 0 18 ∷ [])
+rule_33 = rule 15 (Terminal 1 18 ∷ Nonterminal 16 ∷ Terminal 0 19 ∷ [])
 
 -- Trees = Tree ', Tree
 abbrev pub rule_34 : Rule
-rule_34 = rule 16 (Nonterminal 5 ∷ Terminal 0 33 ∷ Nonterminal 5 ∷ [])
+rule_34 = rule 16 (Nonterminal 5 ∷ Terminal 0 34 ∷ Nonterminal 5 ∷ [])
 
 -- Trees = Trees ', Tree
 abbrev pub rule_35 : Rule
-rule_35 = rule 16 (Nonterminal 16 ∷ Terminal 0 33 ∷ Nonterminal 5 ∷ [])
+rule_35 = rule 16 (Nonterminal 16 ∷ Terminal 0 34 ∷ Nonterminal 5 ∷ [])
 
 -- Bare = Int
 abbrev pub rule_36 : Rule
-rule_36 = rule 17 (Terminal 0 60 ∷ [])
+rule_36 = rule 17 (Terminal 0 66 ∷ [])
 
 -- Bare = Int '-- Int
 abbrev pub rule_37 : Rule
-rule_37 = rule 17 (Terminal 0 60 ∷ Terminal 0 6 ∷ Terminal 0 60 ∷ [])
+rule_37 = rule 17 (Terminal 0 66 ∷ Terminal 0 6 ∷ Terminal 0 66 ∷ [])
 
 -- Bare = Int '--*
 abbrev pub rule_38 : Rule
-rule_38 = rule 17 (Terminal 0 60 ∷ Terminal 0 1 ∷ [])
+rule_38 = rule 17 (Terminal 0 66 ∷ Terminal 0 1 ∷ [])
 
 -- Bare = '*-- Int
 abbrev pub rule_39 : Rule
-rule_39 = rule 17 (Terminal 0 0 ∷ Terminal 0 60 ∷ [])
+rule_39 = rule 17 (Terminal 0 0 ∷ Terminal 0 66 ∷ [])
 
 -- Bare = Char1
 abbrev pub rule_40 : Rule
-rule_40 = rule 17 (Terminal 0 61 ∷ [])
+rule_40 = rule 17 (Terminal 0 67 ∷ [])
 
 -- Bare = Char1 '-- Char1
 abbrev pub rule_41 : Rule
-rule_41 = rule 17 (Terminal 0 61 ∷ Terminal 0 6 ∷ Terminal 0 61 ∷ [])
+rule_41 = rule 17 (Terminal 0 67 ∷ Terminal 0 6 ∷ Terminal 0 67 ∷ [])
 
 -- Bare = Text
 abbrev pub rule_42 : Rule
-rule_42 = rule 17 (Terminal 0 63 ∷ [])
+rule_42 = rule 17 (Terminal 0 69 ∷ [])
 
 -- Bare = Atom
 abbrev pub rule_43 : Rule
-rule_43 = rule 17 (Terminal 0 64 ∷ [])
+rule_43 = rule 17 (Terminal 0 70 ∷ [])
 
 -- Bare = '_
 abbrev pub rule_44 : Rule
-rule_44 = rule 17 (Terminal 0 38 ∷ [])
+rule_44 = rule 17 (Terminal 0 40 ∷ [])
 
 -- Bare = TypeName
 abbrev pub rule_45 : Rule
-rule_45 = rule 17 (Terminal 0 65 ∷ [])
+rule_45 = rule 17 (Terminal 0 71 ∷ [])
 
 -- Bare = ^{ '}
 abbrev pub rule_46 : Rule
-rule_46 = rule 17 (Terminal 1 21 ∷ Terminal 0 22 ∷ [])
+rule_46 = rule 17 (Terminal 1 22 ∷ Terminal 0 23 ∷ [])
 
 -- Bare = ^{ Fields '}
 abbrev pub rule_47 : Rule
-rule_47 = rule 17 (Terminal 1 21 ∷ Nonterminal 18 ∷ Terminal 0 22 ∷ [])
+rule_47 = rule 17 (Terminal 1 22 ∷ Nonterminal 18 ∷ Terminal 0 23 ∷ [])
 
 -- Bare = ^[ ']
 abbrev pub rule_48 : Rule
-rule_48 = rule 17 (Terminal 1 19 ∷ Terminal 0 20 ∷ [])
+rule_48 = rule 17 (Terminal 1 20 ∷ Terminal 0 21 ∷ [])
 
 -- Bare = ^[ Reg ']
 abbrev pub rule_49 : Rule
-rule_49 = rule 17 (Terminal 1 19 ∷ Nonterminal 26 ∷ Terminal 0 20 ∷ [])
+rule_49 = rule 17 (Terminal 1 20 ∷ Nonterminal 28 ∷ Terminal 0 21 ∷ [])
 
 -- Bare = ^< Tag '> Simple
 abbrev pub rule_50 : Rule
-rule_50 = rule 17 (Terminal 1 23 ∷ Nonterminal 21 ∷ Terminal 0 24 ∷ Nonterminal 14 ∷ [])
+rule_50 = rule 17 (Terminal 1 24 ∷ Nonterminal 22 ∷ Terminal 0 25 ∷ Nonterminal 14 ∷ [])
 
 -- Bare = ^< Tag Attrs '> Simple
 abbrev pub rule_51 : Rule
-rule_51 = rule 17 (Terminal 1 23 ∷ Nonterminal 21 ∷ Nonterminal 22 ∷ Terminal 0 24 ∷
+rule_51 = rule 17 (Terminal 1 24 ∷ Nonterminal 22 ∷ Nonterminal 23 ∷ Terminal 0 25 ∷
     Nonterminal 14 ∷ [])
 
 -- Fields = FieldList
 abbrev pub rule_52 : Rule
-rule_52 = rule 18 (Nonterminal 19 ∷ [])
+rule_52 = rule 18 (Nonterminal 20 ∷ [])
 
 -- Fields = FieldList ';
 abbrev pub rule_53 : Rule
-rule_53 = rule 18 (Nonterminal 19 ∷ Terminal 0 34 ∷ [])
+rule_53 = rule 18 (Nonterminal 20 ∷ Terminal 0 35 ∷ [])
 
--- Fields = '..
+-- Fields = Others
 abbrev pub rule_54 : Rule
-rule_54 = rule 18 (Terminal 0 10 ∷ [])
+rule_54 = rule 18 (Nonterminal 19 ∷ [])
 
--- Fields = FieldList '..
+-- Fields = FieldList Others
 abbrev pub rule_55 : Rule
-rule_55 = rule 18 (Nonterminal 19 ∷ Terminal 0 10 ∷ [])
+rule_55 = rule 18 (Nonterminal 20 ∷ Nonterminal 19 ∷ [])
 
--- Fields = FieldList '; '..
+-- Fields = FieldList '; Others
 abbrev pub rule_56 : Rule
-rule_56 = rule 18 (Nonterminal 19 ∷ Terminal 0 34 ∷ Terminal 0 10 ∷ [])
+rule_56 = rule 18 (Nonterminal 20 ∷ Terminal 0 35 ∷ Nonterminal 19 ∷ [])
+
+-- Others = '..
+abbrev pub rule_57 : Rule
+rule_57 = rule 19 (Terminal 0 10 ∷ [])
+
+-- Others = '_ '=? Tree
+abbrev pub rule_58 : Rule
+rule_58 = rule 19 (Terminal 0 40 ∷ Terminal 0 5 ∷ Nonterminal 5 ∷ [])
 
 -- FieldList = Field
-abbrev pub rule_57 : Rule
-rule_57 = rule 19 (Nonterminal 20 ∷ [])
+abbrev pub rule_59 : Rule
+rule_59 = rule 20 (Nonterminal 21 ∷ [])
 
 -- FieldList = FieldList '; Field
-abbrev pub rule_58 : Rule
-rule_58 = rule 19 (Nonterminal 19 ∷ Terminal 0 34 ∷ Nonterminal 20 ∷ [])
+abbrev pub rule_60 : Rule
+rule_60 = rule 20 (Nonterminal 20 ∷ Terminal 0 35 ∷ Nonterminal 21 ∷ [])
 
 -- Field = Label '= Tree
-abbrev pub rule_59 : Rule
-rule_59 = rule 20 (Nonterminal 94 ∷ Terminal 0 25 ∷ Nonterminal 5 ∷ [])
+abbrev pub rule_61 : Rule
+rule_61 = rule 21 (Nonterminal 98 ∷ Terminal 0 26 ∷ Nonterminal 5 ∷ [])
 
 -- Field = Label '=? Tree
-abbrev pub rule_60 : Rule
-rule_60 = rule 20 (Nonterminal 94 ∷ Terminal 0 5 ∷ Nonterminal 5 ∷ [])
+abbrev pub rule_62 : Rule
+rule_62 = rule 21 (Nonterminal 98 ∷ Terminal 0 5 ∷ Nonterminal 5 ∷ [])
 
 -- Tag = Label
-abbrev pub rule_61 : Rule
-rule_61 = rule 21 (Nonterminal 94 ∷ [])
+abbrev pub rule_63 : Rule
+rule_63 = rule 22 (Nonterminal 98 ∷ [])
 
 -- Tag = '_
-abbrev pub rule_62 : Rule
-rule_62 = rule 21 (Terminal 0 38 ∷ [])
+abbrev pub rule_64 : Rule
+rule_64 = rule 22 (Terminal 0 40 ∷ [])
 
 -- Tag = ^( Tree ')
-abbrev pub rule_63 : Rule
-rule_63 = rule 21 (Terminal 1 17 ∷ Nonterminal 5 ∷ Terminal 0 18 ∷ [])
+abbrev pub rule_65 : Rule
+rule_65 = rule 22 (Terminal 1 18 ∷ Nonterminal 5 ∷ Terminal 0 19 ∷ [])
 
 -- Attrs = AttrFields
-abbrev pub rule_64 : Rule
-rule_64 = rule 22 (Nonterminal 23 ∷ [])
-
--- Attrs = ^( Tree ')
-abbrev pub rule_65 : Rule
-rule_65 = rule 22 (Terminal 1 17 ∷ Nonterminal 5 ∷ Terminal 0 18 ∷ [])
-
--- AttrFields = AttrList
 abbrev pub rule_66 : Rule
 rule_66 = rule 23 (Nonterminal 24 ∷ [])
 
--- AttrFields = AttrList ';
+-- Attrs = ^( Tree ')
 abbrev pub rule_67 : Rule
-rule_67 = rule 23 (Nonterminal 24 ∷ Terminal 0 34 ∷ [])
+rule_67 = rule 23 (Terminal 1 18 ∷ Nonterminal 5 ∷ Terminal 0 19 ∷ [])
 
--- AttrFields = '..
+-- AttrFields = AttrList
 abbrev pub rule_68 : Rule
-rule_68 = rule 23 (Terminal 0 10 ∷ [])
+rule_68 = rule 24 (Nonterminal 26 ∷ [])
 
--- AttrFields = AttrList '..
+-- AttrFields = AttrList ';
 abbrev pub rule_69 : Rule
-rule_69 = rule 23 (Nonterminal 24 ∷ Terminal 0 10 ∷ [])
+rule_69 = rule 24 (Nonterminal 26 ∷ Terminal 0 35 ∷ [])
 
--- AttrFields = AttrList '; '..
+-- AttrFields = AttrOthers
 abbrev pub rule_70 : Rule
-rule_70 = rule 23 (Nonterminal 24 ∷ Terminal 0 34 ∷ Terminal 0 10 ∷ [])
+rule_70 = rule 24 (Nonterminal 25 ∷ [])
+
+-- AttrFields = AttrList AttrOthers
+abbrev pub rule_71 : Rule
+rule_71 = rule 24 (Nonterminal 26 ∷ Nonterminal 25 ∷ [])
+
+-- AttrFields = AttrList '; AttrOthers
+abbrev pub rule_72 : Rule
+rule_72 = rule 24 (Nonterminal 26 ∷ Terminal 0 35 ∷ Nonterminal 25 ∷ [])
+
+-- AttrOthers = '..
+abbrev pub rule_73 : Rule
+rule_73 = rule 25 (Terminal 0 10 ∷ [])
+
+-- AttrOthers = '_ '=? Simple
+abbrev pub rule_74 : Rule
+rule_74 = rule 25 (Terminal 0 40 ∷ Terminal 0 5 ∷ Nonterminal 14 ∷ [])
 
 -- AttrList = Attr
-abbrev pub rule_71 : Rule
-rule_71 = rule 24 (Nonterminal 25 ∷ [])
+abbrev pub rule_75 : Rule
+rule_75 = rule 26 (Nonterminal 27 ∷ [])
 
 -- AttrList = AttrList Attr
-abbrev pub rule_72 : Rule
-rule_72 = rule 24 (Nonterminal 24 ∷ Nonterminal 25 ∷ [])
+abbrev pub rule_76 : Rule
+rule_76 = rule 26 (Nonterminal 26 ∷ Nonterminal 27 ∷ [])
 
 -- AttrList = AttrList '; Attr
-abbrev pub rule_73 : Rule
-rule_73 = rule 24 (Nonterminal 24 ∷ Terminal 0 34 ∷ Nonterminal 25 ∷ [])
+abbrev pub rule_77 : Rule
+rule_77 = rule 26 (Nonterminal 26 ∷ Terminal 0 35 ∷ Nonterminal 27 ∷ [])
 
 -- Attr = Label '= Simple
-abbrev pub rule_74 : Rule
-rule_74 = rule 25 (Nonterminal 94 ∷ Terminal 0 25 ∷ Nonterminal 14 ∷ [])
+abbrev pub rule_78 : Rule
+rule_78 = rule 27 (Nonterminal 98 ∷ Terminal 0 26 ∷ Nonterminal 14 ∷ [])
 
 -- Attr = Label '=? Simple
-abbrev pub rule_75 : Rule
-rule_75 = rule 25 (Nonterminal 94 ∷ Terminal 0 5 ∷ Nonterminal 14 ∷ [])
+abbrev pub rule_79 : Rule
+rule_79 = rule 27 (Nonterminal 98 ∷ Terminal 0 5 ∷ Nonterminal 14 ∷ [])
 
 -- Reg = RSeq
-abbrev pub rule_76 : Rule
-rule_76 = rule 26 (Nonterminal 28 ∷ [])
-
--- Reg = Alts
-abbrev pub rule_77 : Rule
-rule_77 = rule 26 (Nonterminal 27 ∷ [])
-
--- Alts = RSeq '| RSeq
-abbrev pub rule_78 : Rule
-rule_78 = rule 27 (Nonterminal 28 ∷ Terminal 0 31 ∷ Nonterminal 28 ∷ [])
-
--- Alts = Alts '| RSeq
-abbrev pub rule_79 : Rule
-rule_79 = rule 27 (Nonterminal 27 ∷ Terminal 0 31 ∷ Nonterminal 28 ∷ [])
-
--- RSeq = RPost
 abbrev pub rule_80 : Rule
 rule_80 = rule 28 (Nonterminal 30 ∷ [])
 
--- RSeq = RPosts
+-- Reg = Alts
 abbrev pub rule_81 : Rule
 rule_81 = rule 28 (Nonterminal 29 ∷ [])
 
--- RPosts = RPost RPost
+-- Alts = RSeq '| RSeq
 abbrev pub rule_82 : Rule
-rule_82 = rule 29 (Nonterminal 30 ∷ Nonterminal 30 ∷ [])
+rule_82 = rule 29 (Nonterminal 30 ∷ Terminal 0 32 ∷ Nonterminal 30 ∷ [])
+
+-- Alts = Alts '| RSeq
+abbrev pub rule_83 : Rule
+rule_83 = rule 29 (Nonterminal 29 ∷ Terminal 0 32 ∷ Nonterminal 30 ∷ [])
+
+-- RSeq = RPost
+abbrev pub rule_84 : Rule
+rule_84 = rule 30 (Nonterminal 32 ∷ [])
+
+-- RSeq = RPosts
+abbrev pub rule_85 : Rule
+rule_85 = rule 30 (Nonterminal 31 ∷ [])
+
+-- RPosts = RPost RPost
+abbrev pub rule_86 : Rule
+rule_86 = rule 31 (Nonterminal 32 ∷ Nonterminal 32 ∷ [])
 
 -- RPosts = RPosts RPost
-abbrev pub rule_83 : Rule
-rule_83 = rule 29 (Nonterminal 29 ∷ Nonterminal 30 ∷ [])
+abbrev pub rule_87 : Rule
+rule_87 = rule 31 (Nonterminal 31 ∷ Nonterminal 32 ∷ [])
 
 -- RPost = RItem
-abbrev pub rule_84 : Rule
-rule_84 = rule 30 (Nonterminal 31 ∷ [])
+abbrev pub rule_88 : Rule
+rule_88 = rule 32 (Nonterminal 33 ∷ [])
 
 -- RPost = RItem Postfix
-abbrev pub rule_85 : Rule
-rule_85 = rule 30 (Nonterminal 31 ∷ Nonterminal 93 ∷ [])
+abbrev pub rule_89 : Rule
+rule_89 = rule 32 (Nonterminal 33 ∷ Nonterminal 97 ∷ [])
 
 -- RItem = IItem
-abbrev pub rule_86 : Rule
-rule_86 = rule 31 (Nonterminal 38 ∷ [])
+abbrev pub rule_90 : Rule
+rule_90 = rule 33 (Nonterminal 40 ∷ [])
 
 -- RItem = Group
-abbrev pub rule_87 : Rule
-rule_87 = rule 31 (Nonterminal 32 ∷ [])
-
--- Group = CharN
-abbrev pub rule_88 : Rule
-rule_88 = rule 32 (Terminal 0 62 ∷ [])
-
--- Group = ^( GReg ')
-abbrev pub rule_89 : Rule
-rule_89 = rule 32 (Terminal 1 17 ∷ Nonterminal 33 ∷ Terminal 0 18 ∷ [])
-
--- GReg = GSeq
-abbrev pub rule_90 : Rule
-rule_90 = rule 33 (Nonterminal 35 ∷ [])
-
--- GReg = GAlts
 abbrev pub rule_91 : Rule
 rule_91 = rule 33 (Nonterminal 34 ∷ [])
 
--- GAlts = GSeq '| GSeq
+-- Group = CharN
 abbrev pub rule_92 : Rule
-rule_92 = rule 34 (Nonterminal 35 ∷ Terminal 0 31 ∷ Nonterminal 35 ∷ [])
+rule_92 = rule 34 (Terminal 0 68 ∷ [])
+
+-- Group = ^( GReg ')
+abbrev pub rule_93 : Rule
+rule_93 = rule 34 (Terminal 1 18 ∷ Nonterminal 35 ∷ Terminal 0 19 ∷ [])
+
+-- GReg = GSeq
+abbrev pub rule_94 : Rule
+rule_94 = rule 35 (Nonterminal 37 ∷ [])
+
+-- GReg = GAlts
+abbrev pub rule_95 : Rule
+rule_95 = rule 35 (Nonterminal 36 ∷ [])
+
+-- GAlts = GSeq '| GSeq
+abbrev pub rule_96 : Rule
+rule_96 = rule 36 (Nonterminal 37 ∷ Terminal 0 32 ∷ Nonterminal 37 ∷ [])
 
 -- GAlts = GSeq '| IItem
-abbrev pub rule_93 : Rule
-rule_93 = rule 34 (Nonterminal 35 ∷ Terminal 0 31 ∷ Nonterminal 38 ∷ [])
+abbrev pub rule_97 : Rule
+rule_97 = rule 36 (Nonterminal 37 ∷ Terminal 0 32 ∷ Nonterminal 40 ∷ [])
 
 -- GAlts = IItem '| GSeq
-abbrev pub rule_94 : Rule
-rule_94 = rule 34 (Nonterminal 38 ∷ Terminal 0 31 ∷ Nonterminal 35 ∷ [])
+abbrev pub rule_98 : Rule
+rule_98 = rule 36 (Nonterminal 40 ∷ Terminal 0 32 ∷ Nonterminal 37 ∷ [])
 
 -- GAlts = IAlts '| GSeq
-abbrev pub rule_95 : Rule
-rule_95 = rule 34 (Nonterminal 48 ∷ Terminal 0 31 ∷ Nonterminal 35 ∷ [])
+abbrev pub rule_99 : Rule
+rule_99 = rule 36 (Nonterminal 50 ∷ Terminal 0 32 ∷ Nonterminal 37 ∷ [])
 
 -- GAlts = GAlts '| GSeq
-abbrev pub rule_96 : Rule
-rule_96 = rule 34 (Nonterminal 34 ∷ Terminal 0 31 ∷ Nonterminal 35 ∷ [])
+abbrev pub rule_100 : Rule
+rule_100 = rule 36 (Nonterminal 36 ∷ Terminal 0 32 ∷ Nonterminal 37 ∷ [])
 
 -- GAlts = GAlts '| IItem
-abbrev pub rule_97 : Rule
-rule_97 = rule 34 (Nonterminal 34 ∷ Terminal 0 31 ∷ Nonterminal 38 ∷ [])
+abbrev pub rule_101 : Rule
+rule_101 = rule 36 (Nonterminal 36 ∷ Terminal 0 32 ∷ Nonterminal 40 ∷ [])
 
 -- GSeq = GItem
-abbrev pub rule_98 : Rule
-rule_98 = rule 35 (Nonterminal 37 ∷ [])
+abbrev pub rule_102 : Rule
+rule_102 = rule 37 (Nonterminal 39 ∷ [])
 
 -- GSeq = GPosts
-abbrev pub rule_99 : Rule
-rule_99 = rule 35 (Nonterminal 36 ∷ [])
+abbrev pub rule_103 : Rule
+rule_103 = rule 37 (Nonterminal 38 ∷ [])
 
 -- GPosts = GItem RPost
-abbrev pub rule_100 : Rule
-rule_100 = rule 36 (Nonterminal 37 ∷ Nonterminal 30 ∷ [])
+abbrev pub rule_104 : Rule
+rule_104 = rule 38 (Nonterminal 39 ∷ Nonterminal 32 ∷ [])
 
 -- GPosts = IItem RPost
-abbrev pub rule_101 : Rule
-rule_101 = rule 36 (Nonterminal 38 ∷ Nonterminal 30 ∷ [])
+abbrev pub rule_105 : Rule
+rule_105 = rule 38 (Nonterminal 40 ∷ Nonterminal 32 ∷ [])
 
 -- GPosts = GPosts RPost
-abbrev pub rule_102 : Rule
-rule_102 = rule 36 (Nonterminal 36 ∷ Nonterminal 30 ∷ [])
+abbrev pub rule_106 : Rule
+rule_106 = rule 38 (Nonterminal 38 ∷ Nonterminal 32 ∷ [])
 
 -- GItem = Group
-abbrev pub rule_103 : Rule
-rule_103 = rule 37 (Nonterminal 32 ∷ [])
+abbrev pub rule_107 : Rule
+rule_107 = rule 39 (Nonterminal 34 ∷ [])
 
 -- GItem = Group Postfix
-abbrev pub rule_104 : Rule
-rule_104 = rule 37 (Nonterminal 32 ∷ Nonterminal 93 ∷ [])
+abbrev pub rule_108 : Rule
+rule_108 = rule 39 (Nonterminal 34 ∷ Nonterminal 97 ∷ [])
 
 -- GItem = IItem Postfix
-abbrev pub rule_105 : Rule
-rule_105 = rule 37 (Nonterminal 38 ∷ Nonterminal 93 ∷ [])
+abbrev pub rule_109 : Rule
+rule_109 = rule 39 (Nonterminal 40 ∷ Nonterminal 97 ∷ [])
 
 -- IItem = IBase
-abbrev pub rule_106 : Rule
-rule_106 = rule 38 (Nonterminal 40 ∷ [])
+abbrev pub rule_110 : Rule
+rule_110 = rule 40 (Nonterminal 42 ∷ [])
 
 -- IItem = ISigns
-abbrev pub rule_107 : Rule
-rule_107 = rule 38 (Nonterminal 39 ∷ [])
+abbrev pub rule_111 : Rule
+rule_111 = rule 40 (Nonterminal 41 ∷ [])
 
 -- ISigns = IBase '& Simple
-abbrev pub rule_108 : Rule
-rule_108 = rule 39 (Nonterminal 40 ∷ Terminal 0 32 ∷ Nonterminal 14 ∷ [])
+abbrev pub rule_112 : Rule
+rule_112 = rule 41 (Nonterminal 42 ∷ Terminal 0 33 ∷ Nonterminal 14 ∷ [])
 
 -- ISigns = IBase '\ Simple
-abbrev pub rule_109 : Rule
-rule_109 = rule 39 (Nonterminal 40 ∷ Terminal 0 30 ∷ Nonterminal 14 ∷ [])
+abbrev pub rule_113 : Rule
+rule_113 = rule 41 (Nonterminal 42 ∷ Terminal 0 31 ∷ Nonterminal 14 ∷ [])
 
 -- ISigns = ISigns '& Simple
-abbrev pub rule_110 : Rule
-rule_110 = rule 39 (Nonterminal 39 ∷ Terminal 0 32 ∷ Nonterminal 14 ∷ [])
+abbrev pub rule_114 : Rule
+rule_114 = rule 41 (Nonterminal 41 ∷ Terminal 0 33 ∷ Nonterminal 14 ∷ [])
 
 -- ISigns = ISigns '\ Simple
-abbrev pub rule_111 : Rule
-rule_111 = rule 39 (Nonterminal 39 ∷ Terminal 0 30 ∷ Nonterminal 14 ∷ [])
+abbrev pub rule_115 : Rule
+rule_115 = rule 41 (Nonterminal 41 ∷ Terminal 0 31 ∷ Nonterminal 14 ∷ [])
 
 -- IBase = Bare
-abbrev pub rule_112 : Rule
-rule_112 = rule 40 (Nonterminal 17 ∷ [])
+abbrev pub rule_116 : Rule
+rule_116 = rule 42 (Nonterminal 17 ∷ [])
 
 -- IBase = ^( IUnion ')
-abbrev pub rule_113 : Rule
-rule_113 = rule 40 (Terminal 1 17 ∷ Nonterminal 47 ∷ Terminal 0 18 ∷ [])
+abbrev pub rule_117 : Rule
+rule_117 = rule 42 (Terminal 1 18 ∷ Nonterminal 49 ∷ Terminal 0 19 ∷ [])
 
 -- IBase = Own
-abbrev pub rule_114 : Rule
-rule_114 = rule 40 (Nonterminal 41 ∷ [])
+abbrev pub rule_118 : Rule
+rule_118 = rule 42 (Nonterminal 43 ∷ [])
 
 -- Own = ^( ITrees ')
-abbrev pub rule_115 : Rule
-rule_115 = rule 41 (Terminal 1 17 ∷ Nonterminal 42 ∷ Terminal 0 18 ∷ [])
+abbrev pub rule_119 : Rule
+rule_119 = rule 43 (Terminal 1 18 ∷ Nonterminal 44 ∷ Terminal 0 19 ∷ [])
 
 -- Own = ^( OwnTree ')
-abbrev pub rule_116 : Rule
-rule_116 = rule 41 (Terminal 1 17 ∷ Nonterminal 44 ∷ Terminal 0 18 ∷ [])
+abbrev pub rule_120 : Rule
+rule_120 = rule 43 (Terminal 1 18 ∷ Nonterminal 46 ∷ Terminal 0 19 ∷ [])
 
 -- ITrees = ITree ', Tree
-abbrev pub rule_117 : Rule
-rule_117 = rule 42 (Nonterminal 43 ∷ Terminal 0 33 ∷ Nonterminal 5 ∷ [])
+abbrev pub rule_121 : Rule
+rule_121 = rule 44 (Nonterminal 45 ∷ Terminal 0 34 ∷ Nonterminal 5 ∷ [])
 
 -- ITrees = ITrees ', Tree
-abbrev pub rule_118 : Rule
-rule_118 = rule 42 (Nonterminal 42 ∷ Terminal 0 33 ∷ Nonterminal 5 ∷ [])
+abbrev pub rule_122 : Rule
+rule_122 = rule 44 (Nonterminal 44 ∷ Terminal 0 34 ∷ Nonterminal 5 ∷ [])
 
 -- ITree = IUnion
-abbrev pub rule_119 : Rule
-rule_119 = rule 43 (Nonterminal 47 ∷ [])
+abbrev pub rule_123 : Rule
+rule_123 = rule 45 (Nonterminal 49 ∷ [])
 
 -- ITree = OwnTree
-abbrev pub rule_120 : Rule
-rule_120 = rule 43 (Nonterminal 44 ∷ [])
-
--- OwnTree = IArrow
-abbrev pub rule_121 : Rule
-rule_121 = rule 44 (Nonterminal 45 ∷ [])
-
--- OwnTree = IArrow 'where Names
-abbrev pub rule_122 : Rule
-rule_122 = rule 44 (Nonterminal 45 ∷ Terminal 0 51 ∷ Nonterminal 6 ∷ [])
-
--- OwnTree = IUnion 'where Names
-abbrev pub rule_123 : Rule
-rule_123 = rule 44 (Nonterminal 47 ∷ Terminal 0 51 ∷ Nonterminal 6 ∷ [])
-
--- IArrow = IArrows
 abbrev pub rule_124 : Rule
 rule_124 = rule 45 (Nonterminal 46 ∷ [])
 
--- IArrows = IUnion ^-> Union
+-- OwnTree = IArrow
 abbrev pub rule_125 : Rule
-rule_125 = rule 46 (Nonterminal 47 ∷ Terminal 1 7 ∷ Nonterminal 10 ∷ [])
+rule_125 = rule 46 (Nonterminal 47 ∷ [])
 
--- IArrows = IUnion ^-> Arrows
+-- OwnTree = IArrow 'where Names
 abbrev pub rule_126 : Rule
-rule_126 = rule 46 (Nonterminal 47 ∷ Terminal 1 7 ∷ Nonterminal 9 ∷ [])
+rule_126 = rule 46 (Nonterminal 47 ∷ Terminal 0 53 ∷ Nonterminal 6 ∷ [])
 
--- IUnion = IItem
+-- OwnTree = IUnion 'where Names
 abbrev pub rule_127 : Rule
-rule_127 = rule 47 (Nonterminal 38 ∷ [])
+rule_127 = rule 46 (Nonterminal 49 ∷ Terminal 0 53 ∷ Nonterminal 6 ∷ [])
 
--- IUnion = IAlts
+-- IArrow = IArrows
 abbrev pub rule_128 : Rule
 rule_128 = rule 47 (Nonterminal 48 ∷ [])
 
--- IAlts = IItem '| IItem
+-- IArrows = IUnion ^-> Union
 abbrev pub rule_129 : Rule
-rule_129 = rule 48 (Nonterminal 38 ∷ Terminal 0 31 ∷ Nonterminal 38 ∷ [])
+rule_129 = rule 48 (Nonterminal 49 ∷ Terminal 1 7 ∷ Nonterminal 10 ∷ [])
+
+-- IArrows = IUnion ^-> Arrows
+abbrev pub rule_130 : Rule
+rule_130 = rule 48 (Nonterminal 49 ∷ Terminal 1 7 ∷ Nonterminal 9 ∷ [])
+
+-- IUnion = IItem
+abbrev pub rule_131 : Rule
+rule_131 = rule 49 (Nonterminal 40 ∷ [])
+
+-- IUnion = IAlts
+abbrev pub rule_132 : Rule
+rule_132 = rule 49 (Nonterminal 50 ∷ [])
+
+-- IAlts = IItem '| IItem
+abbrev pub rule_133 : Rule
+rule_133 = rule 50 (Nonterminal 40 ∷ Terminal 0 32 ∷ Nonterminal 40 ∷ [])
 
 -- IAlts = IAlts '| IItem
-abbrev pub rule_130 : Rule
-rule_130 = rule 48 (Nonterminal 48 ∷ Terminal 0 31 ∷ Nonterminal 38 ∷ [])
+abbrev pub rule_134 : Rule
+rule_134 = rule 50 (Nonterminal 50 ∷ Terminal 0 32 ∷ Nonterminal 40 ∷ [])
 
 -- Tree' = Arrow'
-abbrev pub rule_131 : Rule
-rule_131 = rule 49 (Nonterminal 52 ∷ [])
+abbrev pub rule_135 : Rule
+rule_135 = rule 51 (Nonterminal 54 ∷ [])
 
 -- Tree' = Arrow' 'where Names'
-abbrev pub rule_132 : Rule
-rule_132 = rule 49 (Nonterminal 52 ∷ Terminal 0 51 ∷ Nonterminal 50 ∷ [])
+abbrev pub rule_136 : Rule
+rule_136 = rule 51 (Nonterminal 54 ∷ Terminal 0 53 ∷ Nonterminal 52 ∷ [])
 
 -- Names' = Name'
-abbrev pub rule_133 : Rule
-rule_133 = rule 50 (Nonterminal 51 ∷ [])
-
--- Names' = Names' 'and Name'
-abbrev pub rule_134 : Rule
-rule_134 = rule 50 (Nonterminal 50 ∷ Terminal 0 52 ∷ Nonterminal 51 ∷ [])
-
--- Name' = TypeName '= Arrow'
-abbrev pub rule_135 : Rule
-rule_135 = rule 51 (Terminal 0 65 ∷ Terminal 0 25 ∷ Nonterminal 52 ∷ [])
-
--- Arrow' = Union'
-abbrev pub rule_136 : Rule
-rule_136 = rule 52 (Nonterminal 54 ∷ [])
-
--- Arrow' = Arrows'
 abbrev pub rule_137 : Rule
 rule_137 = rule 52 (Nonterminal 53 ∷ [])
 
--- Arrows' = Union' ^-> Union'
+-- Names' = Names' 'and Name'
 abbrev pub rule_138 : Rule
-rule_138 = rule 53 (Nonterminal 54 ∷ Terminal 1 7 ∷ Nonterminal 54 ∷ [])
+rule_138 = rule 52 (Nonterminal 52 ∷ Terminal 0 54 ∷ Nonterminal 53 ∷ [])
 
--- Arrows' = Union' ^-> Arrows'
+-- Name' = TypeName '= Arrow'
 abbrev pub rule_139 : Rule
-rule_139 = rule 53 (Nonterminal 54 ∷ Terminal 1 7 ∷ Nonterminal 53 ∷ [])
+rule_139 = rule 53 (Terminal 0 71 ∷ Terminal 0 26 ∷ Nonterminal 54 ∷ [])
 
--- Union' = Meet'
+-- Arrow' = Union'
 abbrev pub rule_140 : Rule
 rule_140 = rule 54 (Nonterminal 56 ∷ [])
 
--- Union' = Meets'
+-- Arrow' = Arrows'
 abbrev pub rule_141 : Rule
 rule_141 = rule 54 (Nonterminal 55 ∷ [])
 
--- Meets' = Meet' '| Meet'
+-- Arrows' = Union' ^-> Union'
 abbrev pub rule_142 : Rule
-rule_142 = rule 55 (Nonterminal 56 ∷ Terminal 0 31 ∷ Nonterminal 56 ∷ [])
+rule_142 = rule 55 (Nonterminal 56 ∷ Terminal 1 7 ∷ Nonterminal 56 ∷ [])
 
--- Meets' = Meets' '| Meet'
+-- Arrows' = Union' ^-> Arrows'
 abbrev pub rule_143 : Rule
-rule_143 = rule 55 (Nonterminal 55 ∷ Terminal 0 31 ∷ Nonterminal 56 ∷ [])
+rule_143 = rule 55 (Nonterminal 56 ∷ Terminal 1 7 ∷ Nonterminal 55 ∷ [])
 
--- Meet' = Simple'
+-- Union' = Meet'
 abbrev pub rule_144 : Rule
 rule_144 = rule 56 (Nonterminal 58 ∷ [])
 
--- Meet' = Signs'
+-- Union' = Meets'
 abbrev pub rule_145 : Rule
 rule_145 = rule 56 (Nonterminal 57 ∷ [])
 
--- Signs' = Simple' '& Simple'
+-- Meets' = Meet' '| Meet'
 abbrev pub rule_146 : Rule
 rule_146 = rule 57 (Nonterminal 58 ∷ Terminal 0 32 ∷ Nonterminal 58 ∷ [])
 
--- Signs' = Simple' '\ Simple'
+-- Meets' = Meets' '| Meet'
 abbrev pub rule_147 : Rule
-rule_147 = rule 57 (Nonterminal 58 ∷ Terminal 0 30 ∷ Nonterminal 58 ∷ [])
+rule_147 = rule 57 (Nonterminal 57 ∷ Terminal 0 32 ∷ Nonterminal 58 ∷ [])
+
+-- Meet' = Simple'
+abbrev pub rule_148 : Rule
+rule_148 = rule 58 (Nonterminal 60 ∷ [])
+
+-- Meet' = Signs'
+abbrev pub rule_149 : Rule
+rule_149 = rule 58 (Nonterminal 59 ∷ [])
+
+-- Signs' = Simple' '& Simple'
+abbrev pub rule_150 : Rule
+rule_150 = rule 59 (Nonterminal 60 ∷ Terminal 0 33 ∷ Nonterminal 60 ∷ [])
+
+-- Signs' = Simple' '\ Simple'
+abbrev pub rule_151 : Rule
+rule_151 = rule 59 (Nonterminal 60 ∷ Terminal 0 31 ∷ Nonterminal 60 ∷ [])
 
 -- Signs' = Signs' '& Simple'
-abbrev pub rule_148 : Rule
-rule_148 = rule 57 (Nonterminal 57 ∷ Terminal 0 32 ∷ Nonterminal 58 ∷ [])
+abbrev pub rule_152 : Rule
+rule_152 = rule 59 (Nonterminal 59 ∷ Terminal 0 33 ∷ Nonterminal 60 ∷ [])
 
 -- Signs' = Signs' '\ Simple'
-abbrev pub rule_149 : Rule
-rule_149 = rule 57 (Nonterminal 57 ∷ Terminal 0 30 ∷ Nonterminal 58 ∷ [])
+abbrev pub rule_153 : Rule
+rule_153 = rule 59 (Nonterminal 59 ∷ Terminal 0 31 ∷ Nonterminal 60 ∷ [])
 
 -- Simple' = Bare'
-abbrev pub rule_150 : Rule
-rule_150 = rule 58 (Nonterminal 61 ∷ [])
+abbrev pub rule_154 : Rule
+rule_154 = rule 60 (Nonterminal 63 ∷ [])
 
 -- Simple' = Paren'
-abbrev pub rule_151 : Rule
-rule_151 = rule 58 (Nonterminal 59 ∷ [])
+abbrev pub rule_155 : Rule
+rule_155 = rule 60 (Nonterminal 61 ∷ [])
 
 -- Paren' = ^( Tree' ')
-abbrev pub rule_152 : Rule
-rule_152 = rule 59 (Terminal 1 17 ∷ Nonterminal 49 ∷ Terminal 0 18 ∷ [])
+abbrev pub rule_156 : Rule
+rule_156 = rule 61 (Terminal 1 18 ∷ Nonterminal 51 ∷ Terminal 0 19 ∷ [])
 
 -- Paren' = ^( Trees' ')
-abbrev pub rule_153 : Rule
-rule_153 = rule 59 (Terminal 1 17 ∷ Nonterminal 60 ∷ Terminal 0 18 ∷ [])
+abbrev pub rule_157 : Rule
+rule_157 = rule 61 (Terminal 1 18 ∷ Nonterminal 62 ∷ Terminal 0 19 ∷ [])
 
 -- Trees' = Tree' ', Tree'
-abbrev pub rule_154 : Rule
-rule_154 = rule 60 (Nonterminal 49 ∷ Terminal 0 33 ∷ Nonterminal 49 ∷ [])
+abbrev pub rule_158 : Rule
+rule_158 = rule 62 (Nonterminal 51 ∷ Terminal 0 34 ∷ Nonterminal 51 ∷ [])
 
 -- Trees' = Trees' ', Tree'
-abbrev pub rule_155 : Rule
-rule_155 = rule 60 (Nonterminal 60 ∷ Terminal 0 33 ∷ Nonterminal 49 ∷ [])
+abbrev pub rule_159 : Rule
+rule_159 = rule 62 (Nonterminal 62 ∷ Terminal 0 34 ∷ Nonterminal 51 ∷ [])
 
 -- Bare' = Int
-abbrev pub rule_156 : Rule
-rule_156 = rule 61 (Terminal 0 60 ∷ [])
+abbrev pub rule_160 : Rule
+rule_160 = rule 63 (Terminal 0 66 ∷ [])
 
 -- Bare' = Int '-- Int
-abbrev pub rule_157 : Rule
-rule_157 = rule 61 (Terminal 0 60 ∷ Terminal 0 6 ∷ Terminal 0 60 ∷ [])
+abbrev pub rule_161 : Rule
+rule_161 = rule 63 (Terminal 0 66 ∷ Terminal 0 6 ∷ Terminal 0 66 ∷ [])
 
 -- Bare' = Int '--*
-abbrev pub rule_158 : Rule
-rule_158 = rule 61 (Terminal 0 60 ∷ Terminal 0 1 ∷ [])
+abbrev pub rule_162 : Rule
+rule_162 = rule 63 (Terminal 0 66 ∷ Terminal 0 1 ∷ [])
 
 -- Bare' = '*-- Int
-abbrev pub rule_159 : Rule
-rule_159 = rule 61 (Terminal 0 0 ∷ Terminal 0 60 ∷ [])
+abbrev pub rule_163 : Rule
+rule_163 = rule 63 (Terminal 0 0 ∷ Terminal 0 66 ∷ [])
 
 -- Bare' = Char1
-abbrev pub rule_160 : Rule
-rule_160 = rule 61 (Terminal 0 61 ∷ [])
+abbrev pub rule_164 : Rule
+rule_164 = rule 63 (Terminal 0 67 ∷ [])
 
 -- Bare' = Char1 '-- Char1
-abbrev pub rule_161 : Rule
-rule_161 = rule 61 (Terminal 0 61 ∷ Terminal 0 6 ∷ Terminal 0 61 ∷ [])
+abbrev pub rule_165 : Rule
+rule_165 = rule 63 (Terminal 0 67 ∷ Terminal 0 6 ∷ Terminal 0 67 ∷ [])
 
 -- Bare' = Text
-abbrev pub rule_162 : Rule
-rule_162 = rule 61 (Terminal 0 63 ∷ [])
+abbrev pub rule_166 : Rule
+rule_166 = rule 63 (Terminal 0 69 ∷ [])
 
 -- Bare' = Atom
-abbrev pub rule_163 : Rule
-rule_163 = rule 61 (Terminal 0 64 ∷ [])
+abbrev pub rule_167 : Rule
+rule_167 = rule 63 (Terminal 0 70 ∷ [])
 
 -- Bare' = '_
-abbrev pub rule_164 : Rule
-rule_164 = rule 61 (Terminal 0 38 ∷ [])
+abbrev pub rule_168 : Rule
+rule_168 = rule 63 (Terminal 0 40 ∷ [])
 
 -- Bare' = TypeName
-abbrev pub rule_165 : Rule
-rule_165 = rule 61 (Terminal 0 65 ∷ [])
+abbrev pub rule_169 : Rule
+rule_169 = rule 63 (Terminal 0 71 ∷ [])
 
 -- Bare' = ^{ '}
-abbrev pub rule_166 : Rule
-rule_166 = rule 61 (Terminal 1 21 ∷ Terminal 0 22 ∷ [])
+abbrev pub rule_170 : Rule
+rule_170 = rule 63 (Terminal 1 22 ∷ Terminal 0 23 ∷ [])
 
 -- Bare' = ^{ Fields' '}
-abbrev pub rule_167 : Rule
-rule_167 = rule 61 (Terminal 1 21 ∷ Nonterminal 62 ∷ Terminal 0 22 ∷ [])
+abbrev pub rule_171 : Rule
+rule_171 = rule 63 (Terminal 1 22 ∷ Nonterminal 64 ∷ Terminal 0 23 ∷ [])
 
 -- Bare' = ^[ ']
-abbrev pub rule_168 : Rule
-rule_168 = rule 61 (Terminal 1 19 ∷ Terminal 0 20 ∷ [])
+abbrev pub rule_172 : Rule
+rule_172 = rule 63 (Terminal 1 20 ∷ Terminal 0 21 ∷ [])
 
 -- Bare' = ^[ Reg' ']
-abbrev pub rule_169 : Rule
-rule_169 = rule 61 (Terminal 1 19 ∷ Nonterminal 70 ∷ Terminal 0 20 ∷ [])
+abbrev pub rule_173 : Rule
+rule_173 = rule 63 (Terminal 1 20 ∷ Nonterminal 74 ∷ Terminal 0 21 ∷ [])
 
 -- Bare' = ^< Tag' '> Simple'
-abbrev pub rule_170 : Rule
-rule_170 = rule 61 (Terminal 1 23 ∷ Nonterminal 65 ∷ Terminal 0 24 ∷ Nonterminal 58 ∷ [])
+abbrev pub rule_174 : Rule
+rule_174 = rule 63 (Terminal 1 24 ∷ Nonterminal 68 ∷ Terminal 0 25 ∷ Nonterminal 60 ∷ [])
 
 -- Bare' = ^< Tag' Attrs' '> Simple'
-abbrev pub rule_171 : Rule
-rule_171 = rule 61 (Terminal 1 23 ∷ Nonterminal 65 ∷ Nonterminal 66 ∷ Terminal 0 24 ∷
-    Nonterminal 58 ∷ [])
+abbrev pub rule_175 : Rule
+rule_175 = rule 63 (Terminal 1 24 ∷ Nonterminal 68 ∷ Nonterminal 69 ∷ Terminal 0 25 ∷
+    Nonterminal 60 ∷ [])
 
 -- Fields' = FieldList'
-abbrev pub rule_172 : Rule
-rule_172 = rule 62 (Nonterminal 63 ∷ [])
+abbrev pub rule_176 : Rule
+rule_176 = rule 64 (Nonterminal 66 ∷ [])
 
 -- Fields' = FieldList' ';
-abbrev pub rule_173 : Rule
-rule_173 = rule 62 (Nonterminal 63 ∷ Terminal 0 34 ∷ [])
+abbrev pub rule_177 : Rule
+rule_177 = rule 64 (Nonterminal 66 ∷ Terminal 0 35 ∷ [])
 
--- Fields' = '..
-abbrev pub rule_174 : Rule
-rule_174 = rule 62 (Terminal 0 10 ∷ [])
+-- Fields' = Others'
+abbrev pub rule_178 : Rule
+rule_178 = rule 64 (Nonterminal 65 ∷ [])
 
--- Fields' = FieldList' '..
-abbrev pub rule_175 : Rule
-rule_175 = rule 62 (Nonterminal 63 ∷ Terminal 0 10 ∷ [])
+-- Fields' = FieldList' Others'
+abbrev pub rule_179 : Rule
+rule_179 = rule 64 (Nonterminal 66 ∷ Nonterminal 65 ∷ [])
 
--- Fields' = FieldList' '; '..
-abbrev pub rule_176 : Rule
-rule_176 = rule 62 (Nonterminal 63 ∷ Terminal 0 34 ∷ Terminal 0 10 ∷ [])
+-- Fields' = FieldList' '; Others'
+abbrev pub rule_180 : Rule
+rule_180 = rule 64 (Nonterminal 66 ∷ Terminal 0 35 ∷ Nonterminal 65 ∷ [])
+
+-- Others' = '..
+abbrev pub rule_181 : Rule
+rule_181 = rule 65 (Terminal 0 10 ∷ [])
+
+-- Others' = '_ '=? Tree'
+abbrev pub rule_182 : Rule
+rule_182 = rule 65 (Terminal 0 40 ∷ Terminal 0 5 ∷ Nonterminal 51 ∷ [])
 
 -- FieldList' = Field'
-abbrev pub rule_177 : Rule
-rule_177 = rule 63 (Nonterminal 64 ∷ [])
+abbrev pub rule_183 : Rule
+rule_183 = rule 66 (Nonterminal 67 ∷ [])
 
 -- FieldList' = FieldList' '; Field'
-abbrev pub rule_178 : Rule
-rule_178 = rule 63 (Nonterminal 63 ∷ Terminal 0 34 ∷ Nonterminal 64 ∷ [])
+abbrev pub rule_184 : Rule
+rule_184 = rule 66 (Nonterminal 66 ∷ Terminal 0 35 ∷ Nonterminal 67 ∷ [])
 
 -- Field' = Label '= Tree'
-abbrev pub rule_179 : Rule
-rule_179 = rule 64 (Nonterminal 94 ∷ Terminal 0 25 ∷ Nonterminal 49 ∷ [])
+abbrev pub rule_185 : Rule
+rule_185 = rule 67 (Nonterminal 98 ∷ Terminal 0 26 ∷ Nonterminal 51 ∷ [])
 
 -- Field' = Label '=? Tree'
-abbrev pub rule_180 : Rule
-rule_180 = rule 64 (Nonterminal 94 ∷ Terminal 0 5 ∷ Nonterminal 49 ∷ [])
+abbrev pub rule_186 : Rule
+rule_186 = rule 67 (Nonterminal 98 ∷ Terminal 0 5 ∷ Nonterminal 51 ∷ [])
 
 -- Tag' = Label
-abbrev pub rule_181 : Rule
-rule_181 = rule 65 (Nonterminal 94 ∷ [])
+abbrev pub rule_187 : Rule
+rule_187 = rule 68 (Nonterminal 98 ∷ [])
 
 -- Tag' = '_
-abbrev pub rule_182 : Rule
-rule_182 = rule 65 (Terminal 0 38 ∷ [])
+abbrev pub rule_188 : Rule
+rule_188 = rule 68 (Terminal 0 40 ∷ [])
 
 -- Tag' = ^( Tree' ')
-abbrev pub rule_183 : Rule
-rule_183 = rule 65 (Terminal 1 17 ∷ Nonterminal 49 ∷ Terminal 0 18 ∷ [])
+abbrev pub rule_189 : Rule
+rule_189 = rule 68 (Terminal 1 18 ∷ Nonterminal 51 ∷ Terminal 0 19 ∷ [])
 
 -- Attrs' = AttrFields'
-abbrev pub rule_184 : Rule
-rule_184 = rule 66 (Nonterminal 67 ∷ [])
+abbrev pub rule_190 : Rule
+rule_190 = rule 69 (Nonterminal 70 ∷ [])
 
 -- Attrs' = ^( Tree' ')
-abbrev pub rule_185 : Rule
-rule_185 = rule 66 (Terminal 1 17 ∷ Nonterminal 49 ∷ Terminal 0 18 ∷ [])
+abbrev pub rule_191 : Rule
+rule_191 = rule 69 (Terminal 1 18 ∷ Nonterminal 51 ∷ Terminal 0 19 ∷ [])
 
 -- AttrFields' = AttrList'
-abbrev pub rule_186 : Rule
-rule_186 = rule 67 (Nonterminal 68 ∷ [])
+abbrev pub rule_192 : Rule
+rule_192 = rule 70 (Nonterminal 72 ∷ [])
 
 -- AttrFields' = AttrList' ';
-abbrev pub rule_187 : Rule
-rule_187 = rule 67 (Nonterminal 68 ∷ Terminal 0 34 ∷ [])
+abbrev pub rule_193 : Rule
+rule_193 = rule 70 (Nonterminal 72 ∷ Terminal 0 35 ∷ [])
 
--- AttrFields' = '..
-abbrev pub rule_188 : Rule
-rule_188 = rule 67 (Terminal 0 10 ∷ [])
+-- AttrFields' = AttrOthers'
+abbrev pub rule_194 : Rule
+rule_194 = rule 70 (Nonterminal 71 ∷ [])
 
--- AttrFields' = AttrList' '..
-abbrev pub rule_189 : Rule
-rule_189 = rule 67 (Nonterminal 68 ∷ Terminal 0 10 ∷ [])
+-- AttrFields' = AttrList' AttrOthers'
+abbrev pub rule_195 : Rule
+rule_195 = rule 70 (Nonterminal 72 ∷ Nonterminal 71 ∷ [])
 
--- AttrFields' = AttrList' '; '..
-abbrev pub rule_190 : Rule
-rule_190 = rule 67 (Nonterminal 68 ∷ Terminal 0 34 ∷ Terminal 0 10 ∷ [])
+-- AttrFields' = AttrList' '; AttrOthers'
+abbrev pub rule_196 : Rule
+rule_196 = rule 70 (Nonterminal 72 ∷ Terminal 0 35 ∷ Nonterminal 71 ∷ [])
+
+-- AttrOthers' = '..
+abbrev pub rule_197 : Rule
+rule_197 = rule 71 (Terminal 0 10 ∷ [])
+
+-- AttrOthers' = '_ '=? Simple'
+abbrev pub rule_198 : Rule
+rule_198 = rule 71 (Terminal 0 40 ∷ Terminal 0 5 ∷ Nonterminal 60 ∷ [])
 
 -- AttrList' = Attr'
-abbrev pub rule_191 : Rule
-rule_191 = rule 68 (Nonterminal 69 ∷ [])
+abbrev pub rule_199 : Rule
+rule_199 = rule 72 (Nonterminal 73 ∷ [])
 
 -- AttrList' = AttrList' Attr'
-abbrev pub rule_192 : Rule
-rule_192 = rule 68 (Nonterminal 68 ∷ Nonterminal 69 ∷ [])
+abbrev pub rule_200 : Rule
+rule_200 = rule 72 (Nonterminal 72 ∷ Nonterminal 73 ∷ [])
 
 -- AttrList' = AttrList' '; Attr'
-abbrev pub rule_193 : Rule
-rule_193 = rule 68 (Nonterminal 68 ∷ Terminal 0 34 ∷ Nonterminal 69 ∷ [])
+abbrev pub rule_201 : Rule
+rule_201 = rule 72 (Nonterminal 72 ∷ Terminal 0 35 ∷ Nonterminal 73 ∷ [])
 
 -- Attr' = Label '= Simple'
-abbrev pub rule_194 : Rule
-rule_194 = rule 69 (Nonterminal 94 ∷ Terminal 0 25 ∷ Nonterminal 58 ∷ [])
+abbrev pub rule_202 : Rule
+rule_202 = rule 73 (Nonterminal 98 ∷ Terminal 0 26 ∷ Nonterminal 60 ∷ [])
 
 -- Attr' = Label '=? Simple'
-abbrev pub rule_195 : Rule
-rule_195 = rule 69 (Nonterminal 94 ∷ Terminal 0 5 ∷ Nonterminal 58 ∷ [])
+abbrev pub rule_203 : Rule
+rule_203 = rule 73 (Nonterminal 98 ∷ Terminal 0 5 ∷ Nonterminal 60 ∷ [])
 
 -- Reg' = RSeq'
-abbrev pub rule_196 : Rule
-rule_196 = rule 70 (Nonterminal 72 ∷ [])
+abbrev pub rule_204 : Rule
+rule_204 = rule 74 (Nonterminal 76 ∷ [])
 
 -- Reg' = Alts'
-abbrev pub rule_197 : Rule
-rule_197 = rule 70 (Nonterminal 71 ∷ [])
+abbrev pub rule_205 : Rule
+rule_205 = rule 74 (Nonterminal 75 ∷ [])
 
 -- Alts' = RSeq' '| RSeq'
-abbrev pub rule_198 : Rule
-rule_198 = rule 71 (Nonterminal 72 ∷ Terminal 0 31 ∷ Nonterminal 72 ∷ [])
+abbrev pub rule_206 : Rule
+rule_206 = rule 75 (Nonterminal 76 ∷ Terminal 0 32 ∷ Nonterminal 76 ∷ [])
 
 -- Alts' = Alts' '| RSeq'
-abbrev pub rule_199 : Rule
-rule_199 = rule 71 (Nonterminal 71 ∷ Terminal 0 31 ∷ Nonterminal 72 ∷ [])
+abbrev pub rule_207 : Rule
+rule_207 = rule 75 (Nonterminal 75 ∷ Terminal 0 32 ∷ Nonterminal 76 ∷ [])
 
 -- RSeq' = RPost'
-abbrev pub rule_200 : Rule
-rule_200 = rule 72 (Nonterminal 74 ∷ [])
+abbrev pub rule_208 : Rule
+rule_208 = rule 76 (Nonterminal 78 ∷ [])
 
 -- RSeq' = RPosts'
-abbrev pub rule_201 : Rule
-rule_201 = rule 72 (Nonterminal 73 ∷ [])
+abbrev pub rule_209 : Rule
+rule_209 = rule 76 (Nonterminal 77 ∷ [])
 
 -- RPosts' = RPost' RPost'
-abbrev pub rule_202 : Rule
-rule_202 = rule 73 (Nonterminal 74 ∷ Nonterminal 74 ∷ [])
+abbrev pub rule_210 : Rule
+rule_210 = rule 77 (Nonterminal 78 ∷ Nonterminal 78 ∷ [])
 
 -- RPosts' = RPosts' RPost'
-abbrev pub rule_203 : Rule
-rule_203 = rule 73 (Nonterminal 73 ∷ Nonterminal 74 ∷ [])
+abbrev pub rule_211 : Rule
+rule_211 = rule 77 (Nonterminal 77 ∷ Nonterminal 78 ∷ [])
 
 -- RPost' = RItem'
-abbrev pub rule_204 : Rule
-rule_204 = rule 74 (Nonterminal 75 ∷ [])
+abbrev pub rule_212 : Rule
+rule_212 = rule 78 (Nonterminal 79 ∷ [])
 
 -- RPost' = RItem' Postfix
-abbrev pub rule_205 : Rule
-rule_205 = rule 74 (Nonterminal 75 ∷ Nonterminal 93 ∷ [])
+abbrev pub rule_213 : Rule
+rule_213 = rule 78 (Nonterminal 79 ∷ Nonterminal 97 ∷ [])
 
 -- RItem' = IItem'
-abbrev pub rule_206 : Rule
-rule_206 = rule 75 (Nonterminal 82 ∷ [])
+abbrev pub rule_214 : Rule
+rule_214 = rule 79 (Nonterminal 86 ∷ [])
 
 -- RItem' = Group'
-abbrev pub rule_207 : Rule
-rule_207 = rule 75 (Nonterminal 76 ∷ [])
+abbrev pub rule_215 : Rule
+rule_215 = rule 79 (Nonterminal 80 ∷ [])
 
 -- Group' = CharN
-abbrev pub rule_208 : Rule
-rule_208 = rule 76 (Terminal 0 62 ∷ [])
+abbrev pub rule_216 : Rule
+rule_216 = rule 80 (Terminal 0 68 ∷ [])
 
 -- Group' = ^( GReg' ')
-abbrev pub rule_209 : Rule
-rule_209 = rule 76 (Terminal 1 17 ∷ Nonterminal 77 ∷ Terminal 0 18 ∷ [])
+abbrev pub rule_217 : Rule
+rule_217 = rule 80 (Terminal 1 18 ∷ Nonterminal 81 ∷ Terminal 0 19 ∷ [])
 
 -- GReg' = GSeq'
-abbrev pub rule_210 : Rule
-rule_210 = rule 77 (Nonterminal 79 ∷ [])
+abbrev pub rule_218 : Rule
+rule_218 = rule 81 (Nonterminal 83 ∷ [])
 
 -- GReg' = GAlts'
-abbrev pub rule_211 : Rule
-rule_211 = rule 77 (Nonterminal 78 ∷ [])
+abbrev pub rule_219 : Rule
+rule_219 = rule 81 (Nonterminal 82 ∷ [])
 
 -- GAlts' = GSeq' '| GSeq'
-abbrev pub rule_212 : Rule
-rule_212 = rule 78 (Nonterminal 79 ∷ Terminal 0 31 ∷ Nonterminal 79 ∷ [])
+abbrev pub rule_220 : Rule
+rule_220 = rule 82 (Nonterminal 83 ∷ Terminal 0 32 ∷ Nonterminal 83 ∷ [])
 
 -- GAlts' = GSeq' '| IItem'
-abbrev pub rule_213 : Rule
-rule_213 = rule 78 (Nonterminal 79 ∷ Terminal 0 31 ∷ Nonterminal 82 ∷ [])
+abbrev pub rule_221 : Rule
+rule_221 = rule 82 (Nonterminal 83 ∷ Terminal 0 32 ∷ Nonterminal 86 ∷ [])
 
 -- GAlts' = IItem' '| GSeq'
-abbrev pub rule_214 : Rule
-rule_214 = rule 78 (Nonterminal 82 ∷ Terminal 0 31 ∷ Nonterminal 79 ∷ [])
+abbrev pub rule_222 : Rule
+rule_222 = rule 82 (Nonterminal 86 ∷ Terminal 0 32 ∷ Nonterminal 83 ∷ [])
 
 -- GAlts' = IAlts' '| GSeq'
-abbrev pub rule_215 : Rule
-rule_215 = rule 78 (Nonterminal 92 ∷ Terminal 0 31 ∷ Nonterminal 79 ∷ [])
+abbrev pub rule_223 : Rule
+rule_223 = rule 82 (Nonterminal 96 ∷ Terminal 0 32 ∷ Nonterminal 83 ∷ [])
 
 -- GAlts' = GAlts' '| GSeq'
-abbrev pub rule_216 : Rule
-rule_216 = rule 78 (Nonterminal 78 ∷ Terminal 0 31 ∷ Nonterminal 79 ∷ [])
+abbrev pub rule_224 : Rule
+rule_224 = rule 82 (Nonterminal 82 ∷ Terminal 0 32 ∷ Nonterminal 83 ∷ [])
 
 -- GAlts' = GAlts' '| IItem'
-abbrev pub rule_217 : Rule
-rule_217 = rule 78 (Nonterminal 78 ∷ Terminal 0 31 ∷ Nonterminal 82 ∷ [])
+abbrev pub rule_225 : Rule
+rule_225 = rule 82 (Nonterminal 82 ∷ Terminal 0 32 ∷ Nonterminal 86 ∷ [])
 
 -- GSeq' = GItem'
-abbrev pub rule_218 : Rule
-rule_218 = rule 79 (Nonterminal 81 ∷ [])
+abbrev pub rule_226 : Rule
+rule_226 = rule 83 (Nonterminal 85 ∷ [])
 
 -- GSeq' = GPosts'
-abbrev pub rule_219 : Rule
-rule_219 = rule 79 (Nonterminal 80 ∷ [])
+abbrev pub rule_227 : Rule
+rule_227 = rule 83 (Nonterminal 84 ∷ [])
 
 -- GPosts' = GItem' RPost'
-abbrev pub rule_220 : Rule
-rule_220 = rule 80 (Nonterminal 81 ∷ Nonterminal 74 ∷ [])
+abbrev pub rule_228 : Rule
+rule_228 = rule 84 (Nonterminal 85 ∷ Nonterminal 78 ∷ [])
 
 -- GPosts' = IItem' RPost'
-abbrev pub rule_221 : Rule
-rule_221 = rule 80 (Nonterminal 82 ∷ Nonterminal 74 ∷ [])
+abbrev pub rule_229 : Rule
+rule_229 = rule 84 (Nonterminal 86 ∷ Nonterminal 78 ∷ [])
 
 -- GPosts' = GPosts' RPost'
-abbrev pub rule_222 : Rule
-rule_222 = rule 80 (Nonterminal 80 ∷ Nonterminal 74 ∷ [])
+abbrev pub rule_230 : Rule
+rule_230 = rule 84 (Nonterminal 84 ∷ Nonterminal 78 ∷ [])
 
 -- GItem' = Group'
-abbrev pub rule_223 : Rule
-rule_223 = rule 81 (Nonterminal 76 ∷ [])
+abbrev pub rule_231 : Rule
+rule_231 = rule 85 (Nonterminal 80 ∷ [])
 
 -- GItem' = Group' Postfix
-abbrev pub rule_224 : Rule
-rule_224 = rule 81 (Nonterminal 76 ∷ Nonterminal 93 ∷ [])
+abbrev pub rule_232 : Rule
+rule_232 = rule 85 (Nonterminal 80 ∷ Nonterminal 97 ∷ [])
 
 -- GItem' = IItem' Postfix
-abbrev pub rule_225 : Rule
-rule_225 = rule 81 (Nonterminal 82 ∷ Nonterminal 93 ∷ [])
+abbrev pub rule_233 : Rule
+rule_233 = rule 85 (Nonterminal 86 ∷ Nonterminal 97 ∷ [])
 
 -- IItem' = IBase'
-abbrev pub rule_226 : Rule
-rule_226 = rule 82 (Nonterminal 84 ∷ [])
+abbrev pub rule_234 : Rule
+rule_234 = rule 86 (Nonterminal 88 ∷ [])
 
 -- IItem' = ISigns'
-abbrev pub rule_227 : Rule
-rule_227 = rule 82 (Nonterminal 83 ∷ [])
+abbrev pub rule_235 : Rule
+rule_235 = rule 86 (Nonterminal 87 ∷ [])
 
 -- ISigns' = IBase' '& Simple'
-abbrev pub rule_228 : Rule
-rule_228 = rule 83 (Nonterminal 84 ∷ Terminal 0 32 ∷ Nonterminal 58 ∷ [])
+abbrev pub rule_236 : Rule
+rule_236 = rule 87 (Nonterminal 88 ∷ Terminal 0 33 ∷ Nonterminal 60 ∷ [])
 
 -- ISigns' = IBase' '\ Simple'
-abbrev pub rule_229 : Rule
-rule_229 = rule 83 (Nonterminal 84 ∷ Terminal 0 30 ∷ Nonterminal 58 ∷ [])
+abbrev pub rule_237 : Rule
+rule_237 = rule 87 (Nonterminal 88 ∷ Terminal 0 31 ∷ Nonterminal 60 ∷ [])
 
 -- ISigns' = ISigns' '& Simple'
-abbrev pub rule_230 : Rule
-rule_230 = rule 83 (Nonterminal 83 ∷ Terminal 0 32 ∷ Nonterminal 58 ∷ [])
+abbrev pub rule_238 : Rule
+rule_238 = rule 87 (Nonterminal 87 ∷ Terminal 0 33 ∷ Nonterminal 60 ∷ [])
 
 -- ISigns' = ISigns' '\ Simple'
-abbrev pub rule_231 : Rule
-rule_231 = rule 83 (Nonterminal 83 ∷ Terminal 0 30 ∷ Nonterminal 58 ∷ [])
+abbrev pub rule_239 : Rule
+rule_239 = rule 87 (Nonterminal 87 ∷ Terminal 0 31 ∷ Nonterminal 60 ∷ [])
 
 -- IBase' = Bare'
-abbrev pub rule_232 : Rule
-rule_232 = rule 84 (Nonterminal 61 ∷ [])
+abbrev pub rule_240 : Rule
+rule_240 = rule 88 (Nonterminal 63 ∷ [])
 
 -- IBase' = ^( IUnion' ')
-abbrev pub rule_233 : Rule
-rule_233 = rule 84 (Terminal 1 17 ∷ Nonterminal 91 ∷ Terminal 0 18 ∷ [])
+abbrev pub rule_241 : Rule
+rule_241 = rule 88 (Terminal 1 18 ∷ Nonterminal 95 ∷ Terminal 0 19 ∷ [])
 
 -- IBase' = Own'
-abbrev pub rule_234 : Rule
-rule_234 = rule 84 (Nonterminal 85 ∷ [])
+abbrev pub rule_242 : Rule
+rule_242 = rule 88 (Nonterminal 89 ∷ [])
 
 -- Own' = ^( ITrees' ')
-abbrev pub rule_235 : Rule
-rule_235 = rule 85 (Terminal 1 17 ∷ Nonterminal 86 ∷ Terminal 0 18 ∷ [])
+abbrev pub rule_243 : Rule
+rule_243 = rule 89 (Terminal 1 18 ∷ Nonterminal 90 ∷ Terminal 0 19 ∷ [])
 
 -- Own' = ^( OwnTree' ')
-abbrev pub rule_236 : Rule
-rule_236 = rule 85 (Terminal 1 17 ∷ Nonterminal 88 ∷ Terminal 0 18 ∷ [])
+abbrev pub rule_244 : Rule
+rule_244 = rule 89 (Terminal 1 18 ∷ Nonterminal 92 ∷ Terminal 0 19 ∷ [])
 
 -- ITrees' = ITree' ', Tree'
-abbrev pub rule_237 : Rule
-rule_237 = rule 86 (Nonterminal 87 ∷ Terminal 0 33 ∷ Nonterminal 49 ∷ [])
+abbrev pub rule_245 : Rule
+rule_245 = rule 90 (Nonterminal 91 ∷ Terminal 0 34 ∷ Nonterminal 51 ∷ [])
 
 -- ITrees' = ITrees' ', Tree'
-abbrev pub rule_238 : Rule
-rule_238 = rule 86 (Nonterminal 86 ∷ Terminal 0 33 ∷ Nonterminal 49 ∷ [])
+abbrev pub rule_246 : Rule
+rule_246 = rule 90 (Nonterminal 90 ∷ Terminal 0 34 ∷ Nonterminal 51 ∷ [])
 
 -- ITree' = IUnion'
-abbrev pub rule_239 : Rule
-rule_239 = rule 87 (Nonterminal 91 ∷ [])
+abbrev pub rule_247 : Rule
+rule_247 = rule 91 (Nonterminal 95 ∷ [])
 
 -- ITree' = OwnTree'
-abbrev pub rule_240 : Rule
-rule_240 = rule 87 (Nonterminal 88 ∷ [])
-
--- OwnTree' = IArrow'
-abbrev pub rule_241 : Rule
-rule_241 = rule 88 (Nonterminal 89 ∷ [])
-
--- OwnTree' = IArrow' 'where Names'
-abbrev pub rule_242 : Rule
-rule_242 = rule 88 (Nonterminal 89 ∷ Terminal 0 51 ∷ Nonterminal 50 ∷ [])
-
--- OwnTree' = IUnion' 'where Names'
-abbrev pub rule_243 : Rule
-rule_243 = rule 88 (Nonterminal 91 ∷ Terminal 0 51 ∷ Nonterminal 50 ∷ [])
-
--- IArrow' = IArrows'
-abbrev pub rule_244 : Rule
-rule_244 = rule 89 (Nonterminal 90 ∷ [])
-
--- IArrows' = IUnion' ^-> Union'
-abbrev pub rule_245 : Rule
-rule_245 = rule 90 (Nonterminal 91 ∷ Terminal 1 7 ∷ Nonterminal 54 ∷ [])
-
--- IArrows' = IUnion' ^-> Arrows'
-abbrev pub rule_246 : Rule
-rule_246 = rule 90 (Nonterminal 91 ∷ Terminal 1 7 ∷ Nonterminal 53 ∷ [])
-
--- IUnion' = IItem'
-abbrev pub rule_247 : Rule
-rule_247 = rule 91 (Nonterminal 82 ∷ [])
-
--- IUnion' = IAlts'
 abbrev pub rule_248 : Rule
 rule_248 = rule 91 (Nonterminal 92 ∷ [])
 
--- IAlts' = IItem' '| IItem'
+-- OwnTree' = IArrow'
 abbrev pub rule_249 : Rule
-rule_249 = rule 92 (Nonterminal 82 ∷ Terminal 0 31 ∷ Nonterminal 82 ∷ [])
+rule_249 = rule 92 (Nonterminal 93 ∷ [])
+
+-- OwnTree' = IArrow' 'where Names'
+abbrev pub rule_250 : Rule
+rule_250 = rule 92 (Nonterminal 93 ∷ Terminal 0 53 ∷ Nonterminal 52 ∷ [])
+
+-- OwnTree' = IUnion' 'where Names'
+abbrev pub rule_251 : Rule
+rule_251 = rule 92 (Nonterminal 95 ∷ Terminal 0 53 ∷ Nonterminal 52 ∷ [])
+
+-- IArrow' = IArrows'
+abbrev pub rule_252 : Rule
+rule_252 = rule 93 (Nonterminal 94 ∷ [])
+
+-- IArrows' = IUnion' ^-> Union'
+abbrev pub rule_253 : Rule
+rule_253 = rule 94 (Nonterminal 95 ∷ Terminal 1 7 ∷ Nonterminal 56 ∷ [])
+
+-- IArrows' = IUnion' ^-> Arrows'
+abbrev pub rule_254 : Rule
+rule_254 = rule 94 (Nonterminal 95 ∷ Terminal 1 7 ∷ Nonterminal 55 ∷ [])
+
+-- IUnion' = IItem'
+abbrev pub rule_255 : Rule
+rule_255 = rule 95 (Nonterminal 86 ∷ [])
+
+-- IUnion' = IAlts'
+abbrev pub rule_256 : Rule
+rule_256 = rule 95 (Nonterminal 96 ∷ [])
+
+-- IAlts' = IItem' '| IItem'
+abbrev pub rule_257 : Rule
+rule_257 = rule 96 (Nonterminal 86 ∷ Terminal 0 32 ∷ Nonterminal 86 ∷ [])
 
 -- IAlts' = IAlts' '| IItem'
-abbrev pub rule_250 : Rule
-rule_250 = rule 92 (Nonterminal 92 ∷ Terminal 0 31 ∷ Nonterminal 82 ∷ [])
+abbrev pub rule_258 : Rule
+rule_258 = rule 96 (Nonterminal 96 ∷ Terminal 0 32 ∷ Nonterminal 86 ∷ [])
 
 -- Postfix = '*
-abbrev pub rule_251 : Rule
-rule_251 = rule 93 (Terminal 0 27 ∷ [])
+abbrev pub rule_259 : Rule
+rule_259 = rule 97 (Terminal 0 28 ∷ [])
 
 -- Postfix = '+
-abbrev pub rule_252 : Rule
-rule_252 = rule 93 (Terminal 0 28 ∷ [])
+abbrev pub rule_260 : Rule
+rule_260 = rule 97 (Terminal 0 29 ∷ [])
 
 -- Postfix = '?
-abbrev pub rule_253 : Rule
-rule_253 = rule 93 (Terminal 0 26 ∷ [])
+abbrev pub rule_261 : Rule
+rule_261 = rule 97 (Terminal 0 27 ∷ [])
 
 -- Postfix = '*?
-abbrev pub rule_254 : Rule
-rule_254 = rule 93 (Terminal 0 2 ∷ [])
+abbrev pub rule_262 : Rule
+rule_262 = rule 97 (Terminal 0 2 ∷ [])
 
 -- Postfix = '+?
-abbrev pub rule_255 : Rule
-rule_255 = rule 93 (Terminal 0 3 ∷ [])
+abbrev pub rule_263 : Rule
+rule_263 = rule 97 (Terminal 0 3 ∷ [])
 
 -- Postfix = '??
-abbrev pub rule_256 : Rule
-rule_256 = rule 93 (Terminal 0 4 ∷ [])
+abbrev pub rule_264 : Rule
+rule_264 = rule 97 (Terminal 0 4 ∷ [])
 
 -- Label = TypeName
-abbrev pub rule_257 : Rule
-rule_257 = rule 94 (Terminal 0 65 ∷ [])
+abbrev pub rule_265 : Rule
+rule_265 = rule 98 (Terminal 0 71 ∷ [])
 
 -- Label = Variable
-abbrev pub rule_258 : Rule
-rule_258 = rule 94 (Terminal 0 66 ∷ [])
+abbrev pub rule_266 : Rule
+rule_266 = rule 98 (Terminal 0 72 ∷ [])
 
 -- Label = 'type
-abbrev pub rule_259 : Rule
-rule_259 = rule 94 (Terminal 0 39 ∷ [])
+abbrev pub rule_267 : Rule
+rule_267 = rule 98 (Terminal 0 41 ∷ [])
 
 -- Label = 'let
-abbrev pub rule_260 : Rule
-rule_260 = rule 94 (Terminal 0 40 ∷ [])
+abbrev pub rule_268 : Rule
+rule_268 = rule 98 (Terminal 0 42 ∷ [])
 
 -- Label = 'fun
-abbrev pub rule_261 : Rule
-rule_261 = rule 94 (Terminal 0 41 ∷ [])
+abbrev pub rule_269 : Rule
+rule_269 = rule 98 (Terminal 0 43 ∷ [])
 
 -- Label = 'in
-abbrev pub rule_262 : Rule
-rule_262 = rule 94 (Terminal 0 42 ∷ [])
+abbrev pub rule_270 : Rule
+rule_270 = rule 98 (Terminal 0 44 ∷ [])
 
 -- Label = 'match
-abbrev pub rule_263 : Rule
-rule_263 = rule 94 (Terminal 0 43 ∷ [])
+abbrev pub rule_271 : Rule
+rule_271 = rule 98 (Terminal 0 45 ∷ [])
 
 -- Label = 'with
-abbrev pub rule_264 : Rule
-rule_264 = rule 94 (Terminal 0 44 ∷ [])
+abbrev pub rule_272 : Rule
+rule_272 = rule 98 (Terminal 0 46 ∷ [])
 
 -- Label = 'if
-abbrev pub rule_265 : Rule
-rule_265 = rule 94 (Terminal 0 45 ∷ [])
+abbrev pub rule_273 : Rule
+rule_273 = rule 98 (Terminal 0 47 ∷ [])
 
 -- Label = 'then
-abbrev pub rule_266 : Rule
-rule_266 = rule 94 (Terminal 0 46 ∷ [])
+abbrev pub rule_274 : Rule
+rule_274 = rule 98 (Terminal 0 48 ∷ [])
 
 -- Label = 'else
-abbrev pub rule_267 : Rule
-rule_267 = rule 94 (Terminal 0 47 ∷ [])
+abbrev pub rule_275 : Rule
+rule_275 = rule 98 (Terminal 0 49 ∷ [])
 
 -- Label = 'try
-abbrev pub rule_268 : Rule
-rule_268 = rule 94 (Terminal 0 48 ∷ [])
+abbrev pub rule_276 : Rule
+rule_276 = rule 98 (Terminal 0 50 ∷ [])
 
 -- Label = 'map
-abbrev pub rule_269 : Rule
-rule_269 = rule 94 (Terminal 0 49 ∷ [])
+abbrev pub rule_277 : Rule
+rule_277 = rule 98 (Terminal 0 51 ∷ [])
 
 -- Label = 'transform
-abbrev pub rule_270 : Rule
-rule_270 = rule 94 (Terminal 0 50 ∷ [])
+abbrev pub rule_278 : Rule
+rule_278 = rule 98 (Terminal 0 52 ∷ [])
 
 -- Label = 'where
-abbrev pub rule_271 : Rule
-rule_271 = rule 94 (Terminal 0 51 ∷ [])
+abbrev pub rule_279 : Rule
+rule_279 = rule 98 (Terminal 0 53 ∷ [])
 
 -- Label = 'and
-abbrev pub rule_272 : Rule
-rule_272 = rule 94 (Terminal 0 52 ∷ [])
+abbrev pub rule_280 : Rule
+rule_280 = rule 98 (Terminal 0 54 ∷ [])
 
 -- Label = 'div
-abbrev pub rule_273 : Rule
-rule_273 = rule 94 (Terminal 0 53 ∷ [])
+abbrev pub rule_281 : Rule
+rule_281 = rule 98 (Terminal 0 55 ∷ [])
 
 -- Label = 'mod
-abbrev pub rule_274 : Rule
-rule_274 = rule 94 (Terminal 0 54 ∷ [])
+abbrev pub rule_282 : Rule
+rule_282 = rule 98 (Terminal 0 56 ∷ [])
 
 -- Label = 'not
-abbrev pub rule_275 : Rule
-rule_275 = rule 94 (Terminal 0 55 ∷ [])
+abbrev pub rule_283 : Rule
+rule_283 = rule 98 (Terminal 0 57 ∷ [])
 
 -- Label = 'flatten
-abbrev pub rule_276 : Rule
-rule_276 = rule 94 (Terminal 0 56 ∷ [])
+abbrev pub rule_284 : Rule
+rule_284 = rule 98 (Terminal 0 58 ∷ [])
 
 -- Label = 'int_of
-abbrev pub rule_277 : Rule
-rule_277 = rule 94 (Terminal 0 57 ∷ [])
+abbrev pub rule_285 : Rule
+rule_285 = rule 98 (Terminal 0 59 ∷ [])
 
 -- Label = 'string_of
-abbrev pub rule_278 : Rule
-rule_278 = rule 94 (Terminal 0 58 ∷ [])
+abbrev pub rule_286 : Rule
+rule_286 = rule 98 (Terminal 0 60 ∷ [])
+
+-- Label = 'min_of
+abbrev pub rule_287 : Rule
+rule_287 = rule 98 (Terminal 0 61 ∷ [])
+
+-- Label = 'max_of
+abbrev pub rule_288 : Rule
+rule_288 = rule 98 (Terminal 0 62 ∷ [])
 
 -- Label = 'raise
-abbrev pub rule_279 : Rule
-rule_279 = rule 94 (Terminal 0 59 ∷ [])
+abbrev pub rule_289 : Rule
+rule_289 = rule 98 (Terminal 0 63 ∷ [])
+
+-- Label = 'select
+abbrev pub rule_290 : Rule
+rule_290 = rule 98 (Terminal 0 64 ∷ [])
+
+-- Label = 'from
+abbrev pub rule_291 : Rule
+rule_291 = rule 98 (Terminal 0 65 ∷ [])
 
 -- Bare' = Variable
-abbrev pub rule_280 : Rule
-rule_280 = rule 61 (Terminal 0 66 ∷ [])
+abbrev pub rule_292 : Rule
+rule_292 = rule 63 (Terminal 0 72 ∷ [])
 
 -- Paren' = Default
-abbrev pub rule_281 : Rule
-rule_281 = rule 59 (Nonterminal 95 ∷ [])
+abbrev pub rule_293 : Rule
+rule_293 = rule 61 (Nonterminal 99 ∷ [])
 
 -- Own' = Default
-abbrev pub rule_282 : Rule
-rule_282 = rule 85 (Nonterminal 95 ∷ [])
+abbrev pub rule_294 : Rule
+rule_294 = rule 89 (Nonterminal 99 ∷ [])
 
 -- Default = ^( Variable ':= Constant ')
-abbrev pub rule_283 : Rule
-rule_283 = rule 95 (Terminal 1 17 ∷ Terminal 0 66 ∷ Terminal 0 9 ∷ Nonterminal 96 ∷ Terminal 0 18 ∷
+abbrev pub rule_295 : Rule
+rule_295 = rule 99 (Terminal 1 18 ∷ Terminal 0 72 ∷ Terminal 0 9 ∷ Nonterminal 100 ∷ Terminal 0 19 ∷
     [])
 
 -- Constant = Int
-abbrev pub rule_284 : Rule
-rule_284 = rule 96 (Terminal 0 60 ∷ [])
+abbrev pub rule_296 : Rule
+rule_296 = rule 100 (Terminal 0 66 ∷ [])
 
 -- Constant = Char1
-abbrev pub rule_285 : Rule
-rule_285 = rule 96 (Terminal 0 61 ∷ [])
+abbrev pub rule_297 : Rule
+rule_297 = rule 100 (Terminal 0 67 ∷ [])
 
 -- Constant = Text
-abbrev pub rule_286 : Rule
-rule_286 = rule 96 (Terminal 0 63 ∷ [])
+abbrev pub rule_298 : Rule
+rule_298 = rule 100 (Terminal 0 69 ∷ [])
 
 -- Constant = Atom
-abbrev pub rule_287 : Rule
-rule_287 = rule 96 (Terminal 0 64 ∷ [])
+abbrev pub rule_299 : Rule
+rule_299 = rule 100 (Terminal 0 70 ∷ [])
 
 -- Constant = ^[ ']
-abbrev pub rule_288 : Rule
-rule_288 = rule 96 (Terminal 1 19 ∷ Terminal 0 20 ∷ [])
+abbrev pub rule_300 : Rule
+rule_300 = rule 100 (Terminal 1 20 ∷ Terminal 0 21 ∷ [])
 
 -- RPost' = Variable ^:: RPost'
-abbrev pub rule_289 : Rule
-rule_289 = rule 74 (Terminal 0 66 ∷ Terminal 1 8 ∷ Nonterminal 74 ∷ [])
+abbrev pub rule_301 : Rule
+rule_301 = rule 78 (Terminal 0 72 ∷ Terminal 1 8 ∷ Nonterminal 78 ∷ [])
 
 -- GItem' = Variable ^:: RPost'
-abbrev pub rule_290 : Rule
-rule_290 = rule 81 (Terminal 0 66 ∷ Terminal 1 8 ∷ Nonterminal 74 ∷ [])
+abbrev pub rule_302 : Rule
+rule_302 = rule 85 (Terminal 0 72 ∷ Terminal 1 8 ∷ Nonterminal 78 ∷ [])
 
 -- Decls = Type
-abbrev pub rule_291 : Rule
-rule_291 = rule 97 (Nonterminal 3 ∷ [])
+abbrev pub rule_303 : Rule
+rule_303 = rule 101 (Nonterminal 3 ∷ [])
 
 -- Decls = Fun
-abbrev pub rule_292 : Rule
-rule_292 = rule 97 (Nonterminal 98 ∷ [])
+abbrev pub rule_304 : Rule
+rule_304 = rule 101 (Nonterminal 102 ∷ [])
 
 -- Decls = Decls Type
-abbrev pub rule_293 : Rule
-rule_293 = rule 97 (Nonterminal 97 ∷ Nonterminal 3 ∷ [])
+abbrev pub rule_305 : Rule
+rule_305 = rule 101 (Nonterminal 101 ∷ Nonterminal 3 ∷ [])
 
 -- Decls = Decls Fun
-abbrev pub rule_294 : Rule
-rule_294 = rule 97 (Nonterminal 97 ∷ Nonterminal 98 ∷ [])
+abbrev pub rule_306 : Rule
+rule_306 = rule 101 (Nonterminal 101 ∷ Nonterminal 102 ∷ [])
 
 -- Fun = LetFun
-abbrev pub rule_295 : Rule
-rule_295 = rule 98 (Nonterminal 99 ∷ [])
+abbrev pub rule_307 : Rule
+rule_307 = rule 102 (Nonterminal 103 ∷ [])
 
 -- Fun = LetFun ';;
-abbrev pub rule_296 : Rule
-rule_296 = rule 98 (Nonterminal 99 ∷ Terminal 0 16 ∷ [])
+abbrev pub rule_308 : Rule
+rule_308 = rule 102 (Nonterminal 103 ∷ Terminal 0 16 ∷ [])
 
 -- LetFun = ^let ^fun Variable Interface Branches
-abbrev pub rule_297 : Rule
-rule_297 = rule 99 (Terminal 1 40 ∷ Terminal 1 41 ∷ Terminal 0 66 ∷ Nonterminal 100 ∷
-    Nonterminal 103 ∷ [])
+abbrev pub rule_309 : Rule
+rule_309 = rule 103 (Terminal 1 42 ∷ Terminal 1 43 ∷ Terminal 0 72 ∷ Nonterminal 104 ∷
+    Nonterminal 107 ∷ [])
 
 -- Interface = ^( Sigs ')
-abbrev pub rule_298 : Rule
-rule_298 = rule 100 (Terminal 1 17 ∷ Nonterminal 101 ∷ Terminal 0 18 ∷ [])
+abbrev pub rule_310 : Rule
+rule_310 = rule 104 (Terminal 1 18 ∷ Nonterminal 105 ∷ Terminal 0 19 ∷ [])
 
 -- Sigs = Sig
-abbrev pub rule_299 : Rule
-rule_299 = rule 101 (Nonterminal 102 ∷ [])
+abbrev pub rule_311 : Rule
+rule_311 = rule 105 (Nonterminal 106 ∷ [])
 
 -- Sigs = Sigs '; Sig
-abbrev pub rule_300 : Rule
-rule_300 = rule 101 (Nonterminal 101 ∷ Terminal 0 34 ∷ Nonterminal 102 ∷ [])
+abbrev pub rule_312 : Rule
+rule_312 = rule 105 (Nonterminal 105 ∷ Terminal 0 35 ∷ Nonterminal 106 ∷ [])
 
 -- Sig = Union ^-> Arrow
-abbrev pub rule_301 : Rule
-rule_301 = rule 102 (Nonterminal 10 ∷ Terminal 1 7 ∷ Nonterminal 8 ∷ [])
+abbrev pub rule_313 : Rule
+rule_313 = rule 106 (Nonterminal 10 ∷ Terminal 1 7 ∷ Nonterminal 8 ∷ [])
 
 -- Branches = Rest
-abbrev pub rule_302 : Rule
-rule_302 = rule 103 (Nonterminal 104 ∷ [])
+abbrev pub rule_314 : Rule
+rule_314 = rule 107 (Nonterminal 108 ∷ [])
 
 -- Branches = '| Rest
-abbrev pub rule_303 : Rule
-rule_303 = rule 103 (Terminal 0 31 ∷ Nonterminal 104 ∷ [])
+abbrev pub rule_315 : Rule
+rule_315 = rule 107 (Terminal 0 32 ∷ Nonterminal 108 ∷ [])
 
 -- Rest = Last
-abbrev pub rule_304 : Rule
-rule_304 = rule 104 (Nonterminal 108 ∷ [])
+abbrev pub rule_316 : Rule
+rule_316 = rule 108 (Nonterminal 112 ∷ [])
 
 -- Rest = Closed Last
-abbrev pub rule_305 : Rule
-rule_305 = rule 104 (Nonterminal 105 ∷ Nonterminal 108 ∷ [])
+abbrev pub rule_317 : Rule
+rule_317 = rule 108 (Nonterminal 109 ∷ Nonterminal 112 ∷ [])
 
 -- Closed = Full
-abbrev pub rule_306 : Rule
-rule_306 = rule 105 (Nonterminal 106 ∷ [])
+abbrev pub rule_318 : Rule
+rule_318 = rule 109 (Nonterminal 110 ∷ [])
 
 -- Closed = Closed Full
-abbrev pub rule_307 : Rule
-rule_307 = rule 105 (Nonterminal 105 ∷ Nonterminal 106 ∷ [])
+abbrev pub rule_319 : Rule
+rule_319 = rule 109 (Nonterminal 109 ∷ Nonterminal 110 ∷ [])
 
 -- Full = Branch '|
-abbrev pub rule_308 : Rule
-rule_308 = rule 106 (Nonterminal 107 ∷ Terminal 0 31 ∷ [])
+abbrev pub rule_320 : Rule
+rule_320 = rule 110 (Nonterminal 111 ∷ Terminal 0 32 ∷ [])
 
 -- Branch = Union' ^-> Body
-abbrev pub rule_309 : Rule
-rule_309 = rule 107 (Nonterminal 54 ∷ Terminal 1 7 ∷ Nonterminal 110 ∷ [])
+abbrev pub rule_321 : Rule
+rule_321 = rule 111 (Nonterminal 56 ∷ Terminal 1 7 ∷ Nonterminal 114 ∷ [])
 
 -- Last = Union' ^-> Expr
-abbrev pub rule_310 : Rule
-rule_310 = rule 108 (Nonterminal 54 ∷ Terminal 1 7 ∷ Nonterminal 109 ∷ [])
+abbrev pub rule_322 : Rule
+rule_322 = rule 112 (Nonterminal 56 ∷ Terminal 1 7 ∷ Nonterminal 113 ∷ [])
 
 -- Expr = ^match Expr 'with Branches
-abbrev pub rule_311 : Rule
-rule_311 = rule 109 (Terminal 1 43 ∷ Nonterminal 109 ∷ Terminal 0 44 ∷ Nonterminal 103 ∷ [])
+abbrev pub rule_323 : Rule
+rule_323 = rule 113 (Terminal 1 45 ∷ Nonterminal 113 ∷ Terminal 0 46 ∷ Nonterminal 107 ∷ [])
 
 -- Expr = ^try Expr 'with Branches
-abbrev pub rule_312 : Rule
-rule_312 = rule 109 (Terminal 1 48 ∷ Nonterminal 109 ∷ Terminal 0 44 ∷ Nonterminal 103 ∷ [])
+abbrev pub rule_324 : Rule
+rule_324 = rule 113 (Terminal 1 50 ∷ Nonterminal 113 ∷ Terminal 0 46 ∷ Nonterminal 107 ∷ [])
 
 -- Expr = ^map Expr 'with Branches
-abbrev pub rule_313 : Rule
-rule_313 = rule 109 (Terminal 1 49 ∷ Nonterminal 109 ∷ Terminal 0 44 ∷ Nonterminal 103 ∷ [])
+abbrev pub rule_325 : Rule
+rule_325 = rule 113 (Terminal 1 51 ∷ Nonterminal 113 ∷ Terminal 0 46 ∷ Nonterminal 107 ∷ [])
 
 -- Expr = ^transform Expr 'with Branches
-abbrev pub rule_314 : Rule
-rule_314 = rule 109 (Terminal 1 50 ∷ Nonterminal 109 ∷ Terminal 0 44 ∷ Nonterminal 103 ∷ [])
+abbrev pub rule_326 : Rule
+rule_326 = rule 113 (Terminal 1 52 ∷ Nonterminal 113 ∷ Terminal 0 46 ∷ Nonterminal 107 ∷ [])
 
 -- Expr = ^fun Interface Branches
-abbrev pub rule_315 : Rule
-rule_315 = rule 109 (Terminal 1 41 ∷ Nonterminal 100 ∷ Nonterminal 103 ∷ [])
+abbrev pub rule_327 : Rule
+rule_327 = rule 113 (Terminal 1 43 ∷ Nonterminal 104 ∷ Nonterminal 107 ∷ [])
 
 -- Expr = ^fun Variable Interface Branches
-abbrev pub rule_316 : Rule
-rule_316 = rule 109 (Terminal 1 41 ∷ Terminal 0 66 ∷ Nonterminal 100 ∷ Nonterminal 103 ∷ [])
+abbrev pub rule_328 : Rule
+rule_328 = rule 113 (Terminal 1 43 ∷ Terminal 0 72 ∷ Nonterminal 104 ∷ Nonterminal 107 ∷ [])
 
 -- Expr = ^let Union' '= Expr 'in Expr
-abbrev pub rule_317 : Rule
-rule_317 = rule 109 (Terminal 1 40 ∷ Nonterminal 54 ∷ Terminal 0 25 ∷ Nonterminal 109 ∷
-    Terminal 0 42 ∷ Nonterminal 109 ∷ [])
+abbrev pub rule_329 : Rule
+rule_329 = rule 113 (Terminal 1 42 ∷ Nonterminal 56 ∷ Terminal 0 26 ∷ Nonterminal 113 ∷
+    Terminal 0 44 ∷ Nonterminal 113 ∷ [])
 
 -- Expr = ^if Expr 'then Expr 'else Expr
-abbrev pub rule_318 : Rule
-rule_318 = rule 109 (Terminal 1 45 ∷ Nonterminal 109 ∷ Terminal 0 46 ∷ Nonterminal 109 ∷
-    Terminal 0 47 ∷ Nonterminal 109 ∷ [])
+abbrev pub rule_330 : Rule
+rule_330 = rule 113 (Terminal 1 47 ∷ Nonterminal 113 ∷ Terminal 0 48 ∷ Nonterminal 113 ∷
+    Terminal 0 49 ∷ Nonterminal 113 ∷ [])
 
 -- Expr = Or
-abbrev pub rule_319 : Rule
-rule_319 = rule 109 (Nonterminal 111 ∷ [])
+abbrev pub rule_331 : Rule
+rule_331 = rule 113 (Nonterminal 115 ∷ [])
 
 -- Body = ^let Union' '= Expr 'in Body
-abbrev pub rule_320 : Rule
-rule_320 = rule 110 (Terminal 1 40 ∷ Nonterminal 54 ∷ Terminal 0 25 ∷ Nonterminal 109 ∷
-    Terminal 0 42 ∷ Nonterminal 110 ∷ [])
+abbrev pub rule_332 : Rule
+rule_332 = rule 114 (Terminal 1 42 ∷ Nonterminal 56 ∷ Terminal 0 26 ∷ Nonterminal 113 ∷
+    Terminal 0 44 ∷ Nonterminal 114 ∷ [])
 
 -- Body = ^if Expr 'then Expr 'else Body
-abbrev pub rule_321 : Rule
-rule_321 = rule 110 (Terminal 1 45 ∷ Nonterminal 109 ∷ Terminal 0 46 ∷ Nonterminal 109 ∷
-    Terminal 0 47 ∷ Nonterminal 110 ∷ [])
+abbrev pub rule_333 : Rule
+rule_333 = rule 114 (Terminal 1 47 ∷ Nonterminal 113 ∷ Terminal 0 48 ∷ Nonterminal 113 ∷
+    Terminal 0 49 ∷ Nonterminal 114 ∷ [])
 
 -- Body = Or
-abbrev pub rule_322 : Rule
-rule_322 = rule 110 (Nonterminal 111 ∷ [])
+abbrev pub rule_334 : Rule
+rule_334 = rule 114 (Nonterminal 115 ∷ [])
 
 -- Or = And
-abbrev pub rule_323 : Rule
-rule_323 = rule 111 (Nonterminal 113 ∷ [])
+abbrev pub rule_335 : Rule
+rule_335 = rule 115 (Nonterminal 117 ∷ [])
 
 -- Or = Ors
-abbrev pub rule_324 : Rule
-rule_324 = rule 111 (Nonterminal 112 ∷ [])
+abbrev pub rule_336 : Rule
+rule_336 = rule 115 (Nonterminal 116 ∷ [])
 
 -- Ors = And '|| And
-abbrev pub rule_325 : Rule
-rule_325 = rule 112 (Nonterminal 113 ∷ Terminal 0 15 ∷ Nonterminal 113 ∷ [])
+abbrev pub rule_337 : Rule
+rule_337 = rule 116 (Nonterminal 117 ∷ Terminal 0 15 ∷ Nonterminal 117 ∷ [])
 
 -- Ors = Ors '|| And
-abbrev pub rule_326 : Rule
-rule_326 = rule 112 (Nonterminal 112 ∷ Terminal 0 15 ∷ Nonterminal 113 ∷ [])
+abbrev pub rule_338 : Rule
+rule_338 = rule 116 (Nonterminal 116 ∷ Terminal 0 15 ∷ Nonterminal 117 ∷ [])
 
 -- And = Cmp
-abbrev pub rule_327 : Rule
-rule_327 = rule 113 (Nonterminal 115 ∷ [])
-
--- And = Ands
-abbrev pub rule_328 : Rule
-rule_328 = rule 113 (Nonterminal 114 ∷ [])
-
--- Ands = Cmp '&& Cmp
-abbrev pub rule_329 : Rule
-rule_329 = rule 114 (Nonterminal 115 ∷ Terminal 0 14 ∷ Nonterminal 115 ∷ [])
-
--- Ands = Ands '&& Cmp
-abbrev pub rule_330 : Rule
-rule_330 = rule 114 (Nonterminal 114 ∷ Terminal 0 14 ∷ Nonterminal 115 ∷ [])
-
--- Cmp = Cat
-abbrev pub rule_331 : Rule
-rule_331 = rule 115 (Nonterminal 117 ∷ [])
-
--- Cmp = Compared
-abbrev pub rule_332 : Rule
-rule_332 = rule 115 (Nonterminal 116 ∷ [])
-
--- Compared = Cat '= Cat
-abbrev pub rule_333 : Rule
-rule_333 = rule 116 (Nonterminal 117 ∷ Terminal 0 25 ∷ Nonterminal 117 ∷ [])
-
--- Compared = Cat '!= Cat
-abbrev pub rule_334 : Rule
-rule_334 = rule 116 (Nonterminal 117 ∷ Terminal 0 11 ∷ Nonterminal 117 ∷ [])
-
--- Compared = Cat '< Cat
-abbrev pub rule_335 : Rule
-rule_335 = rule 116 (Nonterminal 117 ∷ Terminal 0 23 ∷ Nonterminal 117 ∷ [])
-
--- Compared = Cat '<= Cat
-abbrev pub rule_336 : Rule
-rule_336 = rule 116 (Nonterminal 117 ∷ Terminal 0 12 ∷ Nonterminal 117 ∷ [])
-
--- Compared = Cat '> Cat
-abbrev pub rule_337 : Rule
-rule_337 = rule 116 (Nonterminal 117 ∷ Terminal 0 24 ∷ Nonterminal 117 ∷ [])
-
--- Compared = Cat '>= Cat
-abbrev pub rule_338 : Rule
-rule_338 = rule 116 (Nonterminal 117 ∷ Terminal 0 13 ∷ Nonterminal 117 ∷ [])
-
--- Cat = Sum
 abbrev pub rule_339 : Rule
 rule_339 = rule 117 (Nonterminal 119 ∷ [])
 
--- Cat = Cats
+-- And = Ands
 abbrev pub rule_340 : Rule
 rule_340 = rule 117 (Nonterminal 118 ∷ [])
 
--- Cats = Sum '@ Sum
+-- Ands = Cmp '&& Cmp
 abbrev pub rule_341 : Rule
-rule_341 = rule 118 (Nonterminal 119 ∷ Terminal 0 37 ∷ Nonterminal 119 ∷ [])
+rule_341 = rule 118 (Nonterminal 119 ∷ Terminal 0 14 ∷ Nonterminal 119 ∷ [])
 
--- Cats = Cats '@ Sum
+-- Ands = Ands '&& Cmp
 abbrev pub rule_342 : Rule
-rule_342 = rule 118 (Nonterminal 118 ∷ Terminal 0 37 ∷ Nonterminal 119 ∷ [])
+rule_342 = rule 118 (Nonterminal 118 ∷ Terminal 0 14 ∷ Nonterminal 119 ∷ [])
 
--- Sum = Prod
+-- Cmp = Cat
 abbrev pub rule_343 : Rule
 rule_343 = rule 119 (Nonterminal 121 ∷ [])
 
--- Sum = Sums
+-- Cmp = Compared
 abbrev pub rule_344 : Rule
 rule_344 = rule 119 (Nonterminal 120 ∷ [])
 
--- Sums = Prod '+ Prod
+-- Compared = Cat '= Cat
 abbrev pub rule_345 : Rule
-rule_345 = rule 120 (Nonterminal 121 ∷ Terminal 0 28 ∷ Nonterminal 121 ∷ [])
+rule_345 = rule 120 (Nonterminal 121 ∷ Terminal 0 26 ∷ Nonterminal 121 ∷ [])
 
--- Sums = Prod '- Prod
+-- Compared = Cat '!= Cat
 abbrev pub rule_346 : Rule
-rule_346 = rule 120 (Nonterminal 121 ∷ Terminal 0 29 ∷ Nonterminal 121 ∷ [])
+rule_346 = rule 120 (Nonterminal 121 ∷ Terminal 0 11 ∷ Nonterminal 121 ∷ [])
 
--- Sums = Prod '\ Label
+-- Compared = Cat '< Cat
 abbrev pub rule_347 : Rule
-rule_347 = rule 120 (Nonterminal 121 ∷ Terminal 0 30 ∷ Nonterminal 94 ∷ [])
+rule_347 = rule 120 (Nonterminal 121 ∷ Terminal 0 24 ∷ Nonterminal 121 ∷ [])
 
--- Sums = Sums '+ Prod
+-- Compared = Cat '<= Cat
 abbrev pub rule_348 : Rule
-rule_348 = rule 120 (Nonterminal 120 ∷ Terminal 0 28 ∷ Nonterminal 121 ∷ [])
+rule_348 = rule 120 (Nonterminal 121 ∷ Terminal 0 12 ∷ Nonterminal 121 ∷ [])
 
--- Sums = Sums '- Prod
+-- Compared = Cat '> Cat
 abbrev pub rule_349 : Rule
-rule_349 = rule 120 (Nonterminal 120 ∷ Terminal 0 29 ∷ Nonterminal 121 ∷ [])
+rule_349 = rule 120 (Nonterminal 121 ∷ Terminal 0 25 ∷ Nonterminal 121 ∷ [])
 
--- Sums = Sums '\ Label
+-- Compared = Cat '>= Cat
 abbrev pub rule_350 : Rule
-rule_350 = rule 120 (Nonterminal 120 ∷ Terminal 0 30 ∷ Nonterminal 94 ∷ [])
+rule_350 = rule 120 (Nonterminal 121 ∷ Terminal 0 13 ∷ Nonterminal 121 ∷ [])
 
--- Prod = App
+-- Cat = Sum
 abbrev pub rule_351 : Rule
 rule_351 = rule 121 (Nonterminal 123 ∷ [])
 
--- Prod = Prods
+-- Cat = Cats
 abbrev pub rule_352 : Rule
 rule_352 = rule 121 (Nonterminal 122 ∷ [])
 
--- Prods = App '* App
+-- Cats = Sum '@ Sum
 abbrev pub rule_353 : Rule
-rule_353 = rule 122 (Nonterminal 123 ∷ Terminal 0 27 ∷ Nonterminal 123 ∷ [])
+rule_353 = rule 122 (Nonterminal 123 ∷ Terminal 0 39 ∷ Nonterminal 123 ∷ [])
+
+-- Cats = Cats '@ Sum
+abbrev pub rule_354 : Rule
+rule_354 = rule 122 (Nonterminal 122 ∷ Terminal 0 39 ∷ Nonterminal 123 ∷ [])
+
+-- Sum = Prod
+abbrev pub rule_355 : Rule
+rule_355 = rule 123 (Nonterminal 125 ∷ [])
+
+-- Sum = Sums
+abbrev pub rule_356 : Rule
+rule_356 = rule 123 (Nonterminal 124 ∷ [])
+
+-- Sums = Prod '+ Prod
+abbrev pub rule_357 : Rule
+rule_357 = rule 124 (Nonterminal 125 ∷ Terminal 0 29 ∷ Nonterminal 125 ∷ [])
+
+-- Sums = Prod '- Prod
+abbrev pub rule_358 : Rule
+rule_358 = rule 124 (Nonterminal 125 ∷ Terminal 0 30 ∷ Nonterminal 125 ∷ [])
+
+-- Sums = Prod '\ Label
+abbrev pub rule_359 : Rule
+rule_359 = rule 124 (Nonterminal 125 ∷ Terminal 0 31 ∷ Nonterminal 98 ∷ [])
+
+-- Sums = Sums '+ Prod
+abbrev pub rule_360 : Rule
+rule_360 = rule 124 (Nonterminal 124 ∷ Terminal 0 29 ∷ Nonterminal 125 ∷ [])
+
+-- Sums = Sums '- Prod
+abbrev pub rule_361 : Rule
+rule_361 = rule 124 (Nonterminal 124 ∷ Terminal 0 30 ∷ Nonterminal 125 ∷ [])
+
+-- Sums = Sums '\ Label
+abbrev pub rule_362 : Rule
+rule_362 = rule 124 (Nonterminal 124 ∷ Terminal 0 31 ∷ Nonterminal 98 ∷ [])
+
+-- Prod = App
+abbrev pub rule_363 : Rule
+rule_363 = rule 125 (Nonterminal 127 ∷ [])
+
+-- Prod = Prods
+abbrev pub rule_364 : Rule
+rule_364 = rule 125 (Nonterminal 126 ∷ [])
+
+-- Prods = App '* App
+abbrev pub rule_365 : Rule
+rule_365 = rule 126 (Nonterminal 127 ∷ Terminal 0 28 ∷ Nonterminal 127 ∷ [])
 
 -- Prods = App 'div App
-abbrev pub rule_354 : Rule
-rule_354 = rule 122 (Nonterminal 123 ∷ Terminal 0 53 ∷ Nonterminal 123 ∷ [])
+abbrev pub rule_366 : Rule
+rule_366 = rule 126 (Nonterminal 127 ∷ Terminal 0 55 ∷ Nonterminal 127 ∷ [])
 
 -- Prods = App 'mod App
-abbrev pub rule_355 : Rule
-rule_355 = rule 122 (Nonterminal 123 ∷ Terminal 0 54 ∷ Nonterminal 123 ∷ [])
+abbrev pub rule_367 : Rule
+rule_367 = rule 126 (Nonterminal 127 ∷ Terminal 0 56 ∷ Nonterminal 127 ∷ [])
 
 -- Prods = Prods '* App
-abbrev pub rule_356 : Rule
-rule_356 = rule 122 (Nonterminal 122 ∷ Terminal 0 27 ∷ Nonterminal 123 ∷ [])
+abbrev pub rule_368 : Rule
+rule_368 = rule 126 (Nonterminal 126 ∷ Terminal 0 28 ∷ Nonterminal 127 ∷ [])
 
 -- Prods = Prods 'div App
-abbrev pub rule_357 : Rule
-rule_357 = rule 122 (Nonterminal 122 ∷ Terminal 0 53 ∷ Nonterminal 123 ∷ [])
+abbrev pub rule_369 : Rule
+rule_369 = rule 126 (Nonterminal 126 ∷ Terminal 0 55 ∷ Nonterminal 127 ∷ [])
 
 -- Prods = Prods 'mod App
-abbrev pub rule_358 : Rule
-rule_358 = rule 122 (Nonterminal 122 ∷ Terminal 0 54 ∷ Nonterminal 123 ∷ [])
+abbrev pub rule_370 : Rule
+rule_370 = rule 126 (Nonterminal 126 ∷ Terminal 0 56 ∷ Nonterminal 127 ∷ [])
 
 -- App = 'not Post
-abbrev pub rule_359 : Rule
-rule_359 = rule 123 (Terminal 0 55 ∷ Nonterminal 125 ∷ [])
+abbrev pub rule_371 : Rule
+rule_371 = rule 127 (Terminal 0 57 ∷ Nonterminal 129 ∷ [])
 
 -- App = 'flatten Post
-abbrev pub rule_360 : Rule
-rule_360 = rule 123 (Terminal 0 56 ∷ Nonterminal 125 ∷ [])
+abbrev pub rule_372 : Rule
+rule_372 = rule 127 (Terminal 0 58 ∷ Nonterminal 129 ∷ [])
 
 -- App = 'int_of Post
-abbrev pub rule_361 : Rule
-rule_361 = rule 123 (Terminal 0 57 ∷ Nonterminal 125 ∷ [])
+abbrev pub rule_373 : Rule
+rule_373 = rule 127 (Terminal 0 59 ∷ Nonterminal 129 ∷ [])
 
 -- App = 'string_of Post
-abbrev pub rule_362 : Rule
-rule_362 = rule 123 (Terminal 0 58 ∷ Nonterminal 125 ∷ [])
+abbrev pub rule_374 : Rule
+rule_374 = rule 127 (Terminal 0 60 ∷ Nonterminal 129 ∷ [])
+
+-- App = 'min_of Post
+abbrev pub rule_375 : Rule
+rule_375 = rule 127 (Terminal 0 61 ∷ Nonterminal 129 ∷ [])
+
+-- App = 'max_of Post
+abbrev pub rule_376 : Rule
+rule_376 = rule 127 (Terminal 0 62 ∷ Nonterminal 129 ∷ [])
 
 -- App = 'raise Post
-abbrev pub rule_363 : Rule
-rule_363 = rule 123 (Terminal 0 59 ∷ Nonterminal 125 ∷ [])
+abbrev pub rule_377 : Rule
+rule_377 = rule 127 (Terminal 0 63 ∷ Nonterminal 129 ∷ [])
 
 -- App = Post
-abbrev pub rule_364 : Rule
-rule_364 = rule 123 (Nonterminal 125 ∷ [])
+abbrev pub rule_378 : Rule
+rule_378 = rule 127 (Nonterminal 129 ∷ [])
 
 -- App = Posts
-abbrev pub rule_365 : Rule
-rule_365 = rule 123 (Nonterminal 124 ∷ [])
+abbrev pub rule_379 : Rule
+rule_379 = rule 127 (Nonterminal 128 ∷ [])
 
 -- Posts = Post NPost
-abbrev pub rule_366 : Rule
-rule_366 = rule 124 (Nonterminal 125 ∷ Nonterminal 127 ∷ [])
+abbrev pub rule_380 : Rule
+rule_380 = rule 128 (Nonterminal 129 ∷ Nonterminal 130 ∷ [])
 
 -- Posts = Posts NPost
-abbrev pub rule_367 : Rule
-rule_367 = rule 124 (Nonterminal 124 ∷ Nonterminal 127 ∷ [])
+abbrev pub rule_381 : Rule
+rule_381 = rule 128 (Nonterminal 128 ∷ Nonterminal 130 ∷ [])
 
 -- Post = Base
-abbrev pub rule_368 : Rule
-rule_368 = rule 125 (Nonterminal 131 ∷ [])
+abbrev pub rule_382 : Rule
+rule_382 = rule 129 (Nonterminal 134 ∷ [])
 
--- Post = Selects
-abbrev pub rule_369 : Rule
-rule_369 = rule 125 (Nonterminal 126 ∷ [])
-
--- Selects = Base '. Label
-abbrev pub rule_370 : Rule
-rule_370 = rule 126 (Nonterminal 131 ∷ Terminal 0 35 ∷ Nonterminal 94 ∷ [])
-
--- Selects = Selects '. Label
-abbrev pub rule_371 : Rule
-rule_371 = rule 126 (Nonterminal 126 ∷ Terminal 0 35 ∷ Nonterminal 94 ∷ [])
+-- Post = Base Steps
+abbrev pub rule_383 : Rule
+rule_383 = rule 129 (Nonterminal 134 ∷ Nonterminal 132 ∷ [])
 
 -- NPost = NBase
-abbrev pub rule_372 : Rule
-rule_372 = rule 127 (Nonterminal 132 ∷ [])
+abbrev pub rule_384 : Rule
+rule_384 = rule 130 (Nonterminal 135 ∷ [])
 
--- NPost = NSelects
-abbrev pub rule_373 : Rule
-rule_373 = rule 127 (Nonterminal 128 ∷ [])
-
--- NSelects = NBase '. Label
-abbrev pub rule_374 : Rule
-rule_374 = rule 128 (Nonterminal 132 ∷ Terminal 0 35 ∷ Nonterminal 94 ∷ [])
-
--- NSelects = NSelects '. Label
-abbrev pub rule_375 : Rule
-rule_375 = rule 128 (Nonterminal 128 ∷ Terminal 0 35 ∷ Nonterminal 94 ∷ [])
+-- NPost = NBase Steps
+abbrev pub rule_385 : Rule
+rule_385 = rule 130 (Nonterminal 135 ∷ Nonterminal 132 ∷ [])
 
 -- CPost = CBase
-abbrev pub rule_376 : Rule
-rule_376 = rule 129 (Nonterminal 133 ∷ [])
+abbrev pub rule_386 : Rule
+rule_386 = rule 131 (Nonterminal 136 ∷ [])
 
--- CPost = CSelects
-abbrev pub rule_377 : Rule
-rule_377 = rule 129 (Nonterminal 130 ∷ [])
+-- CPost = CBase Steps
+abbrev pub rule_387 : Rule
+rule_387 = rule 131 (Nonterminal 136 ∷ Nonterminal 132 ∷ [])
 
--- CSelects = CBase '. Label
-abbrev pub rule_378 : Rule
-rule_378 = rule 130 (Nonterminal 133 ∷ Terminal 0 35 ∷ Nonterminal 94 ∷ [])
+-- Steps = '. Label
+abbrev pub rule_388 : Rule
+rule_388 = rule 132 (Terminal 0 36 ∷ Nonterminal 98 ∷ [])
 
--- CSelects = CSelects '. Label
-abbrev pub rule_379 : Rule
-rule_379 = rule 130 (Nonterminal 130 ∷ Terminal 0 35 ∷ Nonterminal 94 ∷ [])
+-- Steps = '. Label Steps
+abbrev pub rule_389 : Rule
+rule_389 = rule 132 (Terminal 0 36 ∷ Nonterminal 98 ∷ Nonterminal 132 ∷ [])
+
+-- Steps = ^/ Label
+abbrev pub rule_390 : Rule
+rule_390 = rule 132 (Terminal 1 37 ∷ Nonterminal 98 ∷ [])
+
+-- Steps = ^/ Label Steps
+abbrev pub rule_391 : Rule
+rule_391 = rule 132 (Terminal 1 37 ∷ Nonterminal 98 ∷ Nonterminal 132 ∷ [])
+
+-- Steps = ^/@ Label
+abbrev pub rule_392 : Rule
+rule_392 = rule 132 (Terminal 1 17 ∷ Nonterminal 98 ∷ [])
+
+-- Steps = ^/@ Label Steps
+abbrev pub rule_393 : Rule
+rule_393 = rule 132 (Terminal 1 17 ∷ Nonterminal 98 ∷ Nonterminal 132 ∷ [])
 
 -- Base = Char1
-abbrev pub rule_380 : Rule
-rule_380 = rule 131 (Terminal 0 61 ∷ [])
+abbrev pub rule_394 : Rule
+rule_394 = rule 134 (Terminal 0 67 ∷ [])
 
 -- Base = CBase
-abbrev pub rule_381 : Rule
-rule_381 = rule 131 (Nonterminal 133 ∷ [])
+abbrev pub rule_395 : Rule
+rule_395 = rule 134 (Nonterminal 136 ∷ [])
 
 -- NBase = Char1
-abbrev pub rule_382 : Rule
-rule_382 = rule 132 (Terminal 0 61 ∷ [])
+abbrev pub rule_396 : Rule
+rule_396 = rule 135 (Terminal 0 67 ∷ [])
 
 -- NBase = Core
-abbrev pub rule_383 : Rule
-rule_383 = rule 132 (Nonterminal 134 ∷ [])
+abbrev pub rule_397 : Rule
+rule_397 = rule 135 (Nonterminal 137 ∷ [])
 
 -- CBase = Core
-abbrev pub rule_384 : Rule
-rule_384 = rule 133 (Nonterminal 134 ∷ [])
+abbrev pub rule_398 : Rule
+rule_398 = rule 136 (Nonterminal 137 ∷ [])
 
 -- CBase = ^< ETag '> Base
-abbrev pub rule_385 : Rule
-rule_385 = rule 133 (Terminal 1 23 ∷ Nonterminal 141 ∷ Terminal 0 24 ∷ Nonterminal 131 ∷ [])
+abbrev pub rule_399 : Rule
+rule_399 = rule 136 (Terminal 1 24 ∷ Nonterminal 144 ∷ Terminal 0 25 ∷ Nonterminal 134 ∷ [])
 
 -- CBase = ^< ETag EAttrs '> Base
-abbrev pub rule_386 : Rule
-rule_386 = rule 133 (Terminal 1 23 ∷ Nonterminal 141 ∷ Nonterminal 142 ∷ Terminal 0 24 ∷
-    Nonterminal 131 ∷ [])
+abbrev pub rule_400 : Rule
+rule_400 = rule 136 (Terminal 1 24 ∷ Nonterminal 144 ∷ Nonterminal 145 ∷ Terminal 0 25 ∷
+    Nonterminal 134 ∷ [])
 
 -- Core = Int
-abbrev pub rule_387 : Rule
-rule_387 = rule 134 (Terminal 0 60 ∷ [])
+abbrev pub rule_401 : Rule
+rule_401 = rule 137 (Terminal 0 66 ∷ [])
 
 -- Core = Text
-abbrev pub rule_388 : Rule
-rule_388 = rule 134 (Terminal 0 63 ∷ [])
+abbrev pub rule_402 : Rule
+rule_402 = rule 137 (Terminal 0 69 ∷ [])
 
 -- Core = Atom
-abbrev pub rule_389 : Rule
-rule_389 = rule 134 (Terminal 0 64 ∷ [])
+abbrev pub rule_403 : Rule
+rule_403 = rule 137 (Terminal 0 70 ∷ [])
 
 -- Core = Variable
-abbrev pub rule_390 : Rule
-rule_390 = rule 134 (Terminal 0 66 ∷ [])
+abbrev pub rule_404 : Rule
+rule_404 = rule 137 (Terminal 0 72 ∷ [])
 
 -- Core = ^( Expr ')
-abbrev pub rule_391 : Rule
-rule_391 = rule 134 (Terminal 1 17 ∷ Nonterminal 109 ∷ Terminal 0 18 ∷ [])
+abbrev pub rule_405 : Rule
+rule_405 = rule 137 (Terminal 1 18 ∷ Nonterminal 113 ∷ Terminal 0 19 ∷ [])
 
 -- Core = ^( Exprs ')
-abbrev pub rule_392 : Rule
-rule_392 = rule 134 (Terminal 1 17 ∷ Nonterminal 135 ∷ Terminal 0 18 ∷ [])
+abbrev pub rule_406 : Rule
+rule_406 = rule 137 (Terminal 1 18 ∷ Nonterminal 138 ∷ Terminal 0 19 ∷ [])
 
 -- Core = ^[ ']
-abbrev pub rule_393 : Rule
-rule_393 = rule 134 (Terminal 1 19 ∷ Terminal 0 20 ∷ [])
+abbrev pub rule_407 : Rule
+rule_407 = rule 137 (Terminal 1 20 ∷ Terminal 0 21 ∷ [])
 
 -- Core = ^[ Items ']
-abbrev pub rule_394 : Rule
-rule_394 = rule 134 (Terminal 1 19 ∷ Nonterminal 136 ∷ Terminal 0 20 ∷ [])
+abbrev pub rule_408 : Rule
+rule_408 = rule 137 (Terminal 1 20 ∷ Nonterminal 139 ∷ Terminal 0 21 ∷ [])
 
 -- Core = ^{ '}
-abbrev pub rule_395 : Rule
-rule_395 = rule 134 (Terminal 1 21 ∷ Terminal 0 22 ∷ [])
+abbrev pub rule_409 : Rule
+rule_409 = rule 137 (Terminal 1 22 ∷ Terminal 0 23 ∷ [])
 
 -- Core = ^{ EFields '}
-abbrev pub rule_396 : Rule
-rule_396 = rule 134 (Terminal 1 21 ∷ Nonterminal 138 ∷ Terminal 0 22 ∷ [])
+abbrev pub rule_410 : Rule
+rule_410 = rule 137 (Terminal 1 22 ∷ Nonterminal 141 ∷ Terminal 0 23 ∷ [])
+
+-- Core = ^( 'select Expr 'from Sources ')
+abbrev pub rule_411 : Rule
+rule_411 = rule 137 (Terminal 1 18 ∷ Terminal 0 64 ∷ Nonterminal 113 ∷ Terminal 0 65 ∷
+    Nonterminal 133 ∷ Terminal 0 19 ∷ [])
+
+-- Sources = Union' ^in Or
+abbrev pub rule_412 : Rule
+rule_412 = rule 133 (Nonterminal 56 ∷ Terminal 1 44 ∷ Nonterminal 115 ∷ [])
+
+-- Sources = Union' ^in Or 'where Or
+abbrev pub rule_413 : Rule
+rule_413 = rule 133 (Nonterminal 56 ∷ Terminal 1 44 ∷ Nonterminal 115 ∷ Terminal 0 53 ∷
+    Nonterminal 115 ∷ [])
+
+-- Sources = Union' ^in Or ', Sources
+abbrev pub rule_414 : Rule
+rule_414 = rule 133 (Nonterminal 56 ∷ Terminal 1 44 ∷ Nonterminal 115 ∷ Terminal 0 34 ∷
+    Nonterminal 133 ∷ [])
 
 -- Exprs = Expr ', Expr
-abbrev pub rule_397 : Rule
-rule_397 = rule 135 (Nonterminal 109 ∷ Terminal 0 33 ∷ Nonterminal 109 ∷ [])
+abbrev pub rule_415 : Rule
+rule_415 = rule 138 (Nonterminal 113 ∷ Terminal 0 34 ∷ Nonterminal 113 ∷ [])
 
 -- Exprs = Exprs ', Expr
-abbrev pub rule_398 : Rule
-rule_398 = rule 135 (Nonterminal 135 ∷ Terminal 0 33 ∷ Nonterminal 109 ∷ [])
+abbrev pub rule_416 : Rule
+rule_416 = rule 138 (Nonterminal 138 ∷ Terminal 0 34 ∷ Nonterminal 113 ∷ [])
 
 -- Items = Item
-abbrev pub rule_399 : Rule
-rule_399 = rule 136 (Nonterminal 137 ∷ [])
+abbrev pub rule_417 : Rule
+rule_417 = rule 139 (Nonterminal 140 ∷ [])
 
 -- Items = Items Item
-abbrev pub rule_400 : Rule
-rule_400 = rule 136 (Nonterminal 136 ∷ Nonterminal 137 ∷ [])
+abbrev pub rule_418 : Rule
+rule_418 = rule 139 (Nonterminal 139 ∷ Nonterminal 140 ∷ [])
 
 -- Item = Char1
-abbrev pub rule_401 : Rule
-rule_401 = rule 137 (Terminal 0 61 ∷ [])
+abbrev pub rule_419 : Rule
+rule_419 = rule 140 (Terminal 0 67 ∷ [])
 
 -- Item = CharN
-abbrev pub rule_402 : Rule
-rule_402 = rule 137 (Terminal 0 62 ∷ [])
+abbrev pub rule_420 : Rule
+rule_420 = rule 140 (Terminal 0 68 ∷ [])
 
 -- Item = '! Post
-abbrev pub rule_403 : Rule
-rule_403 = rule 137 (Terminal 0 36 ∷ Nonterminal 125 ∷ [])
+abbrev pub rule_421 : Rule
+rule_421 = rule 140 (Terminal 0 38 ∷ Nonterminal 129 ∷ [])
 
 -- Item = CPost
-abbrev pub rule_404 : Rule
-rule_404 = rule 137 (Nonterminal 129 ∷ [])
+abbrev pub rule_422 : Rule
+rule_422 = rule 140 (Nonterminal 131 ∷ [])
 
 -- EFields = ERow
-abbrev pub rule_405 : Rule
-rule_405 = rule 138 (Nonterminal 139 ∷ [])
+abbrev pub rule_423 : Rule
+rule_423 = rule 141 (Nonterminal 142 ∷ [])
 
 -- EFields = ERow ';
-abbrev pub rule_406 : Rule
-rule_406 = rule 138 (Nonterminal 139 ∷ Terminal 0 34 ∷ [])
+abbrev pub rule_424 : Rule
+rule_424 = rule 141 (Nonterminal 142 ∷ Terminal 0 35 ∷ [])
 
 -- ERow = EField
-abbrev pub rule_407 : Rule
-rule_407 = rule 139 (Nonterminal 140 ∷ [])
+abbrev pub rule_425 : Rule
+rule_425 = rule 142 (Nonterminal 143 ∷ [])
 
 -- ERow = ERow '; EField
-abbrev pub rule_408 : Rule
-rule_408 = rule 139 (Nonterminal 139 ∷ Terminal 0 34 ∷ Nonterminal 140 ∷ [])
+abbrev pub rule_426 : Rule
+rule_426 = rule 142 (Nonterminal 142 ∷ Terminal 0 35 ∷ Nonterminal 143 ∷ [])
 
 -- EField = Label '= Expr
-abbrev pub rule_409 : Rule
-rule_409 = rule 140 (Nonterminal 94 ∷ Terminal 0 25 ∷ Nonterminal 109 ∷ [])
+abbrev pub rule_427 : Rule
+rule_427 = rule 143 (Nonterminal 98 ∷ Terminal 0 26 ∷ Nonterminal 113 ∷ [])
 
 -- ETag = Label
-abbrev pub rule_410 : Rule
-rule_410 = rule 141 (Nonterminal 94 ∷ [])
+abbrev pub rule_428 : Rule
+rule_428 = rule 144 (Nonterminal 98 ∷ [])
 
 -- ETag = ^( Expr ')
-abbrev pub rule_411 : Rule
-rule_411 = rule 141 (Terminal 1 17 ∷ Nonterminal 109 ∷ Terminal 0 18 ∷ [])
+abbrev pub rule_429 : Rule
+rule_429 = rule 144 (Terminal 1 18 ∷ Nonterminal 113 ∷ Terminal 0 19 ∷ [])
 
 -- EAttrs = EAttrFields
-abbrev pub rule_412 : Rule
-rule_412 = rule 142 (Nonterminal 143 ∷ [])
+abbrev pub rule_430 : Rule
+rule_430 = rule 145 (Nonterminal 146 ∷ [])
 
 -- EAttrs = ^( Expr ')
-abbrev pub rule_413 : Rule
-rule_413 = rule 142 (Terminal 1 17 ∷ Nonterminal 109 ∷ Terminal 0 18 ∷ [])
+abbrev pub rule_431 : Rule
+rule_431 = rule 145 (Terminal 1 18 ∷ Nonterminal 113 ∷ Terminal 0 19 ∷ [])
 
 -- EAttrFields = EAttrList
-abbrev pub rule_414 : Rule
-rule_414 = rule 143 (Nonterminal 144 ∷ [])
+abbrev pub rule_432 : Rule
+rule_432 = rule 146 (Nonterminal 147 ∷ [])
 
 -- EAttrFields = EAttrList ';
-abbrev pub rule_415 : Rule
-rule_415 = rule 143 (Nonterminal 144 ∷ Terminal 0 34 ∷ [])
+abbrev pub rule_433 : Rule
+rule_433 = rule 146 (Nonterminal 147 ∷ Terminal 0 35 ∷ [])
 
 -- EAttrList = EAttr
-abbrev pub rule_416 : Rule
-rule_416 = rule 144 (Nonterminal 145 ∷ [])
+abbrev pub rule_434 : Rule
+rule_434 = rule 147 (Nonterminal 148 ∷ [])
 
 -- EAttrList = EAttrList EAttr
-abbrev pub rule_417 : Rule
-rule_417 = rule 144 (Nonterminal 144 ∷ Nonterminal 145 ∷ [])
+abbrev pub rule_435 : Rule
+rule_435 = rule 147 (Nonterminal 147 ∷ Nonterminal 148 ∷ [])
 
 -- EAttrList = EAttrList '; EAttr
-abbrev pub rule_418 : Rule
-rule_418 = rule 144 (Nonterminal 144 ∷ Terminal 0 34 ∷ Nonterminal 145 ∷ [])
+abbrev pub rule_436 : Rule
+rule_436 = rule 147 (Nonterminal 147 ∷ Terminal 0 35 ∷ Nonterminal 148 ∷ [])
 
 -- EAttr = Label '= Post
-abbrev pub rule_419 : Rule
-rule_419 = rule 145 (Nonterminal 94 ∷ Terminal 0 25 ∷ Nonterminal 125 ∷ [])
+abbrev pub rule_437 : Rule
+rule_437 = rule 148 (Nonterminal 98 ∷ Terminal 0 26 ∷ Nonterminal 129 ∷ [])
 
 -- the rules by number
 abbrev pub rules : Table Rule
 rules =
-    node 210 rule_210
-    (node 105 rule_105
-    (node 52 rule_52
-    (node 26 rule_26
+    node 219 rule_219
+    (node 109 rule_109
+    (node 54 rule_54
+    (node 27 rule_27
     (node 13 rule_13
     (node 6 rule_6
     (node 3 rule_3
@@ -1721,285 +1796,286 @@ rules =
     (node 16 rule_16 leaf leaf))
     (node 19 rule_19
     (node 18 rule_18 leaf leaf) leaf))
-    (node 23 rule_23
+    (node 24 rule_24
     (node 22 rule_22
-    (node 21 rule_21 leaf leaf) leaf)
-    (node 25 rule_25
-    (node 24 rule_24 leaf leaf) leaf))))
-    (node 39 rule_39
-    (node 33 rule_33
-    (node 30 rule_30
-    (node 28 rule_28
-    (node 27 rule_27 leaf leaf)
-    (node 29 rule_29 leaf leaf))
-    (node 32 rule_32
-    (node 31 rule_31 leaf leaf) leaf))
-    (node 36 rule_36
-    (node 35 rule_35
-    (node 34 rule_34 leaf leaf) leaf)
-    (node 38 rule_38
-    (node 37 rule_37 leaf leaf) leaf)))
-    (node 46 rule_46
-    (node 43 rule_43
+    (node 21 rule_21 leaf leaf)
+    (node 23 rule_23 leaf leaf))
+    (node 26 rule_26
+    (node 25 rule_25 leaf leaf) leaf))))
     (node 41 rule_41
-    (node 40 rule_40 leaf leaf)
-    (node 42 rule_42 leaf leaf))
-    (node 45 rule_45
-    (node 44 rule_44 leaf leaf) leaf))
-    (node 49 rule_49
+    (node 34 rule_34
+    (node 31 rule_31
+    (node 29 rule_29
+    (node 28 rule_28 leaf leaf)
+    (node 30 rule_30 leaf leaf))
+    (node 33 rule_33
+    (node 32 rule_32 leaf leaf) leaf))
+    (node 38 rule_38
+    (node 36 rule_36
+    (node 35 rule_35 leaf leaf)
+    (node 37 rule_37 leaf leaf))
+    (node 40 rule_40
+    (node 39 rule_39 leaf leaf) leaf)))
     (node 48 rule_48
-    (node 47 rule_47 leaf leaf) leaf)
+    (node 45 rule_45
+    (node 43 rule_43
+    (node 42 rule_42 leaf leaf)
+    (node 44 rule_44 leaf leaf))
+    (node 47 rule_47
+    (node 46 rule_46 leaf leaf) leaf))
     (node 51 rule_51
-    (node 50 rule_50 leaf leaf) leaf)))))
-    (node 79 rule_79
-    (node 66 rule_66
-    (node 59 rule_59
-    (node 56 rule_56
-    (node 54 rule_54
-    (node 53 rule_53 leaf leaf)
-    (node 55 rule_55 leaf leaf))
-    (node 58 rule_58
-    (node 57 rule_57 leaf leaf) leaf))
-    (node 63 rule_63
-    (node 61 rule_61
-    (node 60 rule_60 leaf leaf)
-    (node 62 rule_62 leaf leaf))
-    (node 65 rule_65
-    (node 64 rule_64 leaf leaf) leaf)))
-    (node 73 rule_73
-    (node 70 rule_70
+    (node 50 rule_50
+    (node 49 rule_49 leaf leaf) leaf)
+    (node 53 rule_53
+    (node 52 rule_52 leaf leaf) leaf)))))
+    (node 82 rule_82
     (node 68 rule_68
-    (node 67 rule_67 leaf leaf)
-    (node 69 rule_69 leaf leaf))
-    (node 72 rule_72
-    (node 71 rule_71 leaf leaf) leaf))
-    (node 76 rule_76
+    (node 61 rule_61
+    (node 58 rule_58
+    (node 56 rule_56
+    (node 55 rule_55 leaf leaf)
+    (node 57 rule_57 leaf leaf))
+    (node 60 rule_60
+    (node 59 rule_59 leaf leaf) leaf))
+    (node 65 rule_65
+    (node 63 rule_63
+    (node 62 rule_62 leaf leaf)
+    (node 64 rule_64 leaf leaf))
+    (node 67 rule_67
+    (node 66 rule_66 leaf leaf) leaf)))
     (node 75 rule_75
-    (node 74 rule_74 leaf leaf) leaf)
-    (node 78 rule_78
-    (node 77 rule_77 leaf leaf) leaf))))
-    (node 92 rule_92
-    (node 86 rule_86
-    (node 83 rule_83
+    (node 72 rule_72
+    (node 70 rule_70
+    (node 69 rule_69 leaf leaf)
+    (node 71 rule_71 leaf leaf))
+    (node 74 rule_74
+    (node 73 rule_73 leaf leaf) leaf))
+    (node 79 rule_79
+    (node 77 rule_77
+    (node 76 rule_76 leaf leaf)
+    (node 78 rule_78 leaf leaf))
     (node 81 rule_81
-    (node 80 rule_80 leaf leaf)
-    (node 82 rule_82 leaf leaf))
-    (node 85 rule_85
-    (node 84 rule_84 leaf leaf) leaf))
-    (node 89 rule_89
-    (node 88 rule_88
-    (node 87 rule_87 leaf leaf) leaf)
-    (node 91 rule_91
-    (node 90 rule_90 leaf leaf) leaf)))
-    (node 99 rule_99
+    (node 80 rule_80 leaf leaf) leaf))))
     (node 96 rule_96
-    (node 94 rule_94
-    (node 93 rule_93 leaf leaf)
-    (node 95 rule_95 leaf leaf))
+    (node 89 rule_89
+    (node 86 rule_86
+    (node 84 rule_84
+    (node 83 rule_83 leaf leaf)
+    (node 85 rule_85 leaf leaf))
+    (node 88 rule_88
+    (node 87 rule_87 leaf leaf) leaf))
+    (node 93 rule_93
+    (node 91 rule_91
+    (node 90 rule_90 leaf leaf)
+    (node 92 rule_92 leaf leaf))
+    (node 95 rule_95
+    (node 94 rule_94 leaf leaf) leaf)))
+    (node 103 rule_103
+    (node 100 rule_100
     (node 98 rule_98
-    (node 97 rule_97 leaf leaf) leaf))
+    (node 97 rule_97 leaf leaf)
+    (node 99 rule_99 leaf leaf))
     (node 102 rule_102
-    (node 101 rule_101
-    (node 100 rule_100 leaf leaf) leaf)
-    (node 104 rule_104
-    (node 103 rule_103 leaf leaf) leaf))))))
-    (node 158 rule_158
-    (node 132 rule_132
-    (node 119 rule_119
-    (node 112 rule_112
-    (node 109 rule_109
-    (node 107 rule_107
-    (node 106 rule_106 leaf leaf)
-    (node 108 rule_108 leaf leaf))
-    (node 111 rule_111
-    (node 110 rule_110 leaf leaf) leaf))
-    (node 116 rule_116
-    (node 114 rule_114
-    (node 113 rule_113 leaf leaf)
-    (node 115 rule_115 leaf leaf))
-    (node 118 rule_118
-    (node 117 rule_117 leaf leaf) leaf)))
-    (node 126 rule_126
-    (node 123 rule_123
-    (node 121 rule_121
-    (node 120 rule_120 leaf leaf)
-    (node 122 rule_122 leaf leaf))
-    (node 125 rule_125
-    (node 124 rule_124 leaf leaf) leaf))
-    (node 129 rule_129
-    (node 128 rule_128
-    (node 127 rule_127 leaf leaf) leaf)
-    (node 131 rule_131
-    (node 130 rule_130 leaf leaf) leaf))))
-    (node 145 rule_145
-    (node 139 rule_139
-    (node 136 rule_136
-    (node 134 rule_134
-    (node 133 rule_133 leaf leaf)
-    (node 135 rule_135 leaf leaf))
-    (node 138 rule_138
-    (node 137 rule_137 leaf leaf) leaf))
-    (node 142 rule_142
-    (node 141 rule_141
-    (node 140 rule_140 leaf leaf) leaf)
-    (node 144 rule_144
-    (node 143 rule_143 leaf leaf) leaf)))
-    (node 152 rule_152
-    (node 149 rule_149
-    (node 147 rule_147
-    (node 146 rule_146 leaf leaf)
-    (node 148 rule_148 leaf leaf))
-    (node 151 rule_151
-    (node 150 rule_150 leaf leaf) leaf))
-    (node 155 rule_155
-    (node 154 rule_154
-    (node 153 rule_153 leaf leaf) leaf)
-    (node 157 rule_157
-    (node 156 rule_156 leaf leaf) leaf)))))
-    (node 184 rule_184
-    (node 171 rule_171
-    (node 165 rule_165
-    (node 162 rule_162
-    (node 160 rule_160
-    (node 159 rule_159 leaf leaf)
-    (node 161 rule_161 leaf leaf))
+    (node 101 rule_101 leaf leaf) leaf))
+    (node 106 rule_106
+    (node 105 rule_105
+    (node 104 rule_104 leaf leaf) leaf)
+    (node 108 rule_108
+    (node 107 rule_107 leaf leaf) leaf))))))
     (node 164 rule_164
-    (node 163 rule_163 leaf leaf) leaf))
-    (node 168 rule_168
-    (node 167 rule_167
-    (node 166 rule_166 leaf leaf) leaf)
-    (node 170 rule_170
-    (node 169 rule_169 leaf leaf) leaf)))
+    (node 137 rule_137
+    (node 123 rule_123
+    (node 116 rule_116
+    (node 113 rule_113
+    (node 111 rule_111
+    (node 110 rule_110 leaf leaf)
+    (node 112 rule_112 leaf leaf))
+    (node 115 rule_115
+    (node 114 rule_114 leaf leaf) leaf))
+    (node 120 rule_120
+    (node 118 rule_118
+    (node 117 rule_117 leaf leaf)
+    (node 119 rule_119 leaf leaf))
+    (node 122 rule_122
+    (node 121 rule_121 leaf leaf) leaf)))
+    (node 130 rule_130
+    (node 127 rule_127
+    (node 125 rule_125
+    (node 124 rule_124 leaf leaf)
+    (node 126 rule_126 leaf leaf))
+    (node 129 rule_129
+    (node 128 rule_128 leaf leaf) leaf))
+    (node 134 rule_134
+    (node 132 rule_132
+    (node 131 rule_131 leaf leaf)
+    (node 133 rule_133 leaf leaf))
+    (node 136 rule_136
+    (node 135 rule_135 leaf leaf) leaf))))
+    (node 151 rule_151
+    (node 144 rule_144
+    (node 141 rule_141
+    (node 139 rule_139
+    (node 138 rule_138 leaf leaf)
+    (node 140 rule_140 leaf leaf))
+    (node 143 rule_143
+    (node 142 rule_142 leaf leaf) leaf))
+    (node 148 rule_148
+    (node 146 rule_146
+    (node 145 rule_145 leaf leaf)
+    (node 147 rule_147 leaf leaf))
+    (node 150 rule_150
+    (node 149 rule_149 leaf leaf) leaf)))
+    (node 158 rule_158
+    (node 155 rule_155
+    (node 153 rule_153
+    (node 152 rule_152 leaf leaf)
+    (node 154 rule_154 leaf leaf))
+    (node 157 rule_157
+    (node 156 rule_156 leaf leaf) leaf))
+    (node 161 rule_161
+    (node 160 rule_160
+    (node 159 rule_159 leaf leaf) leaf)
+    (node 163 rule_163
+    (node 162 rule_162 leaf leaf) leaf)))))
+    (node 192 rule_192
     (node 178 rule_178
+    (node 171 rule_171
+    (node 168 rule_168
+    (node 166 rule_166
+    (node 165 rule_165 leaf leaf)
+    (node 167 rule_167 leaf leaf))
+    (node 170 rule_170
+    (node 169 rule_169 leaf leaf) leaf))
     (node 175 rule_175
     (node 173 rule_173
     (node 172 rule_172 leaf leaf)
     (node 174 rule_174 leaf leaf))
     (node 177 rule_177
-    (node 176 rule_176 leaf leaf) leaf))
-    (node 181 rule_181
+    (node 176 rule_176 leaf leaf) leaf)))
+    (node 185 rule_185
+    (node 182 rule_182
     (node 180 rule_180
-    (node 179 rule_179 leaf leaf) leaf)
-    (node 183 rule_183
-    (node 182 rule_182 leaf leaf) leaf))))
-    (node 197 rule_197
+    (node 179 rule_179 leaf leaf)
+    (node 181 rule_181 leaf leaf))
+    (node 184 rule_184
+    (node 183 rule_183 leaf leaf) leaf))
+    (node 189 rule_189
+    (node 187 rule_187
+    (node 186 rule_186 leaf leaf)
+    (node 188 rule_188 leaf leaf))
     (node 191 rule_191
-    (node 188 rule_188
-    (node 186 rule_186
-    (node 185 rule_185 leaf leaf)
-    (node 187 rule_187 leaf leaf))
-    (node 190 rule_190
-    (node 189 rule_189 leaf leaf) leaf))
-    (node 194 rule_194
-    (node 193 rule_193
-    (node 192 rule_192 leaf leaf) leaf)
-    (node 196 rule_196
-    (node 195 rule_195 leaf leaf) leaf)))
-    (node 204 rule_204
-    (node 201 rule_201
-    (node 199 rule_199
-    (node 198 rule_198 leaf leaf)
-    (node 200 rule_200 leaf leaf))
-    (node 203 rule_203
-    (node 202 rule_202 leaf leaf) leaf))
-    (node 207 rule_207
+    (node 190 rule_190 leaf leaf) leaf))))
     (node 206 rule_206
-    (node 205 rule_205 leaf leaf) leaf)
-    (node 209 rule_209
-    (node 208 rule_208 leaf leaf) leaf)))))))
-    (node 315 rule_315
-    (node 263 rule_263
-    (node 237 rule_237
-    (node 224 rule_224
-    (node 217 rule_217
-    (node 214 rule_214
+    (node 199 rule_199
+    (node 196 rule_196
+    (node 194 rule_194
+    (node 193 rule_193 leaf leaf)
+    (node 195 rule_195 leaf leaf))
+    (node 198 rule_198
+    (node 197 rule_197 leaf leaf) leaf))
+    (node 203 rule_203
+    (node 201 rule_201
+    (node 200 rule_200 leaf leaf)
+    (node 202 rule_202 leaf leaf))
+    (node 205 rule_205
+    (node 204 rule_204 leaf leaf) leaf)))
+    (node 213 rule_213
+    (node 210 rule_210
+    (node 208 rule_208
+    (node 207 rule_207 leaf leaf)
+    (node 209 rule_209 leaf leaf))
     (node 212 rule_212
-    (node 211 rule_211 leaf leaf)
-    (node 213 rule_213 leaf leaf))
+    (node 211 rule_211 leaf leaf) leaf))
     (node 216 rule_216
-    (node 215 rule_215 leaf leaf) leaf))
-    (node 221 rule_221
-    (node 219 rule_219
-    (node 218 rule_218 leaf leaf)
-    (node 220 rule_220 leaf leaf))
-    (node 223 rule_223
-    (node 222 rule_222 leaf leaf) leaf)))
-    (node 231 rule_231
-    (node 228 rule_228
-    (node 226 rule_226
-    (node 225 rule_225 leaf leaf)
-    (node 227 rule_227 leaf leaf))
-    (node 230 rule_230
-    (node 229 rule_229 leaf leaf) leaf))
-    (node 234 rule_234
-    (node 233 rule_233
-    (node 232 rule_232 leaf leaf) leaf)
-    (node 236 rule_236
-    (node 235 rule_235 leaf leaf) leaf))))
-    (node 250 rule_250
-    (node 244 rule_244
-    (node 241 rule_241
-    (node 239 rule_239
-    (node 238 rule_238 leaf leaf)
-    (node 240 rule_240 leaf leaf))
-    (node 243 rule_243
-    (node 242 rule_242 leaf leaf) leaf))
+    (node 215 rule_215
+    (node 214 rule_214 leaf leaf) leaf)
+    (node 218 rule_218
+    (node 217 rule_217 leaf leaf) leaf)))))))
+    (node 329 rule_329
+    (node 274 rule_274
     (node 247 rule_247
+    (node 233 rule_233
+    (node 226 rule_226
+    (node 223 rule_223
+    (node 221 rule_221
+    (node 220 rule_220 leaf leaf)
+    (node 222 rule_222 leaf leaf))
+    (node 225 rule_225
+    (node 224 rule_224 leaf leaf) leaf))
+    (node 230 rule_230
+    (node 228 rule_228
+    (node 227 rule_227 leaf leaf)
+    (node 229 rule_229 leaf leaf))
+    (node 232 rule_232
+    (node 231 rule_231 leaf leaf) leaf)))
+    (node 240 rule_240
+    (node 237 rule_237
+    (node 235 rule_235
+    (node 234 rule_234 leaf leaf)
+    (node 236 rule_236 leaf leaf))
+    (node 239 rule_239
+    (node 238 rule_238 leaf leaf) leaf))
+    (node 244 rule_244
+    (node 242 rule_242
+    (node 241 rule_241 leaf leaf)
+    (node 243 rule_243 leaf leaf))
     (node 246 rule_246
-    (node 245 rule_245 leaf leaf) leaf)
-    (node 249 rule_249
-    (node 248 rule_248 leaf leaf) leaf)))
-    (node 257 rule_257
+    (node 245 rule_245 leaf leaf) leaf))))
+    (node 261 rule_261
     (node 254 rule_254
-    (node 252 rule_252
-    (node 251 rule_251 leaf leaf)
-    (node 253 rule_253 leaf leaf))
+    (node 251 rule_251
+    (node 249 rule_249
+    (node 248 rule_248 leaf leaf)
+    (node 250 rule_250 leaf leaf))
+    (node 253 rule_253
+    (node 252 rule_252 leaf leaf) leaf))
+    (node 258 rule_258
     (node 256 rule_256
-    (node 255 rule_255 leaf leaf) leaf))
+    (node 255 rule_255 leaf leaf)
+    (node 257 rule_257 leaf leaf))
     (node 260 rule_260
-    (node 259 rule_259
-    (node 258 rule_258 leaf leaf) leaf)
-    (node 262 rule_262
-    (node 261 rule_261 leaf leaf) leaf)))))
-    (node 289 rule_289
-    (node 276 rule_276
-    (node 270 rule_270
-    (node 267 rule_267
+    (node 259 rule_259 leaf leaf) leaf)))
+    (node 268 rule_268
     (node 265 rule_265
-    (node 264 rule_264 leaf leaf)
-    (node 266 rule_266 leaf leaf))
-    (node 269 rule_269
-    (node 268 rule_268 leaf leaf) leaf))
+    (node 263 rule_263
+    (node 262 rule_262 leaf leaf)
+    (node 264 rule_264 leaf leaf))
+    (node 267 rule_267
+    (node 266 rule_266 leaf leaf) leaf))
+    (node 271 rule_271
+    (node 270 rule_270
+    (node 269 rule_269 leaf leaf) leaf)
     (node 273 rule_273
-    (node 272 rule_272
-    (node 271 rule_271 leaf leaf) leaf)
-    (node 275 rule_275
-    (node 274 rule_274 leaf leaf) leaf)))
-    (node 283 rule_283
-    (node 280 rule_280
-    (node 278 rule_278
-    (node 277 rule_277 leaf leaf)
-    (node 279 rule_279 leaf leaf))
-    (node 282 rule_282
-    (node 281 rule_281 leaf leaf) leaf))
-    (node 286 rule_286
-    (node 285 rule_285
-    (node 284 rule_284 leaf leaf) leaf)
-    (node 288 rule_288
-    (node 287 rule_287 leaf leaf) leaf))))
+    (node 272 rule_272 leaf leaf) leaf)))))
     (node 302 rule_302
-    (node 296 rule_296
-    (node 293 rule_293
-    (node 291 rule_291
-    (node 290 rule_290 leaf leaf)
-    (node 292 rule_292 leaf leaf))
+    (node 288 rule_288
+    (node 281 rule_281
+    (node 278 rule_278
+    (node 276 rule_276
+    (node 275 rule_275 leaf leaf)
+    (node 277 rule_277 leaf leaf))
+    (node 280 rule_280
+    (node 279 rule_279 leaf leaf) leaf))
+    (node 285 rule_285
+    (node 283 rule_283
+    (node 282 rule_282 leaf leaf)
+    (node 284 rule_284 leaf leaf))
+    (node 287 rule_287
+    (node 286 rule_286 leaf leaf) leaf)))
     (node 295 rule_295
-    (node 294 rule_294 leaf leaf) leaf))
+    (node 292 rule_292
+    (node 290 rule_290
+    (node 289 rule_289 leaf leaf)
+    (node 291 rule_291 leaf leaf))
+    (node 294 rule_294
+    (node 293 rule_293 leaf leaf) leaf))
     (node 299 rule_299
-    (node 298 rule_298
-    (node 297 rule_297 leaf leaf) leaf)
+    (node 297 rule_297
+    (node 296 rule_296 leaf leaf)
+    (node 298 rule_298 leaf leaf))
     (node 301 rule_301
-    (node 300 rule_300 leaf leaf) leaf)))
+    (node 300 rule_300 leaf leaf) leaf))))
+    (node 316 rule_316
     (node 309 rule_309
     (node 306 rule_306
     (node 304 rule_304
@@ -2007,27 +2083,27 @@ rules =
     (node 305 rule_305 leaf leaf))
     (node 308 rule_308
     (node 307 rule_307 leaf leaf) leaf))
-    (node 312 rule_312
+    (node 313 rule_313
     (node 311 rule_311
-    (node 310 rule_310 leaf leaf) leaf)
-    (node 314 rule_314
-    (node 313 rule_313 leaf leaf) leaf))))))
-    (node 368 rule_368
-    (node 342 rule_342
-    (node 329 rule_329
+    (node 310 rule_310 leaf leaf)
+    (node 312 rule_312 leaf leaf))
+    (node 315 rule_315
+    (node 314 rule_314 leaf leaf) leaf)))
+    (node 323 rule_323
+    (node 320 rule_320
+    (node 318 rule_318
+    (node 317 rule_317 leaf leaf)
+    (node 319 rule_319 leaf leaf))
     (node 322 rule_322
-    (node 319 rule_319
-    (node 317 rule_317
-    (node 316 rule_316 leaf leaf)
-    (node 318 rule_318 leaf leaf))
-    (node 321 rule_321
-    (node 320 rule_320 leaf leaf) leaf))
+    (node 321 rule_321 leaf leaf) leaf))
     (node 326 rule_326
-    (node 324 rule_324
-    (node 323 rule_323 leaf leaf)
-    (node 325 rule_325 leaf leaf))
+    (node 325 rule_325
+    (node 324 rule_324 leaf leaf) leaf)
     (node 328 rule_328
-    (node 327 rule_327 leaf leaf) leaf)))
+    (node 327 rule_327 leaf leaf) leaf))))))
+    (node 384 rule_384
+    (node 357 rule_357
+    (node 343 rule_343
     (node 336 rule_336
     (node 333 rule_333
     (node 331 rule_331
@@ -2035,93 +2111,110 @@ rules =
     (node 332 rule_332 leaf leaf))
     (node 335 rule_335
     (node 334 rule_334 leaf leaf) leaf))
-    (node 339 rule_339
+    (node 340 rule_340
     (node 338 rule_338
-    (node 337 rule_337 leaf leaf) leaf)
-    (node 341 rule_341
-    (node 340 rule_340 leaf leaf) leaf))))
-    (node 355 rule_355
+    (node 337 rule_337 leaf leaf)
+    (node 339 rule_339 leaf leaf))
+    (node 342 rule_342
+    (node 341 rule_341 leaf leaf) leaf)))
+    (node 350 rule_350
+    (node 347 rule_347
+    (node 345 rule_345
+    (node 344 rule_344 leaf leaf)
+    (node 346 rule_346 leaf leaf))
     (node 349 rule_349
-    (node 346 rule_346
-    (node 344 rule_344
-    (node 343 rule_343 leaf leaf)
-    (node 345 rule_345 leaf leaf))
-    (node 348 rule_348
-    (node 347 rule_347 leaf leaf) leaf))
-    (node 352 rule_352
-    (node 351 rule_351
-    (node 350 rule_350 leaf leaf) leaf)
+    (node 348 rule_348 leaf leaf) leaf))
     (node 354 rule_354
-    (node 353 rule_353 leaf leaf) leaf)))
-    (node 362 rule_362
-    (node 359 rule_359
-    (node 357 rule_357
-    (node 356 rule_356 leaf leaf)
-    (node 358 rule_358 leaf leaf))
-    (node 361 rule_361
-    (node 360 rule_360 leaf leaf) leaf))
-    (node 365 rule_365
+    (node 352 rule_352
+    (node 351 rule_351 leaf leaf)
+    (node 353 rule_353 leaf leaf))
+    (node 356 rule_356
+    (node 355 rule_355 leaf leaf) leaf))))
+    (node 371 rule_371
     (node 364 rule_364
-    (node 363 rule_363 leaf leaf) leaf)
-    (node 367 rule_367
-    (node 366 rule_366 leaf leaf) leaf)))))
-    (node 394 rule_394
-    (node 381 rule_381
-    (node 375 rule_375
-    (node 372 rule_372
+    (node 361 rule_361
+    (node 359 rule_359
+    (node 358 rule_358 leaf leaf)
+    (node 360 rule_360 leaf leaf))
+    (node 363 rule_363
+    (node 362 rule_362 leaf leaf) leaf))
+    (node 368 rule_368
+    (node 366 rule_366
+    (node 365 rule_365 leaf leaf)
+    (node 367 rule_367 leaf leaf))
     (node 370 rule_370
-    (node 369 rule_369 leaf leaf)
-    (node 371 rule_371 leaf leaf))
-    (node 374 rule_374
-    (node 373 rule_373 leaf leaf) leaf))
+    (node 369 rule_369 leaf leaf) leaf)))
     (node 378 rule_378
+    (node 375 rule_375
+    (node 373 rule_373
+    (node 372 rule_372 leaf leaf)
+    (node 374 rule_374 leaf leaf))
     (node 377 rule_377
-    (node 376 rule_376 leaf leaf) leaf)
+    (node 376 rule_376 leaf leaf) leaf))
+    (node 381 rule_381
     (node 380 rule_380
-    (node 379 rule_379 leaf leaf) leaf)))
-    (node 388 rule_388
-    (node 385 rule_385
+    (node 379 rule_379 leaf leaf) leaf)
     (node 383 rule_383
-    (node 382 rule_382 leaf leaf)
-    (node 384 rule_384 leaf leaf))
-    (node 387 rule_387
-    (node 386 rule_386 leaf leaf) leaf))
-    (node 391 rule_391
-    (node 390 rule_390
-    (node 389 rule_389 leaf leaf) leaf)
-    (node 393 rule_393
-    (node 392 rule_392 leaf leaf) leaf))))
-    (node 407 rule_407
-    (node 401 rule_401
-    (node 398 rule_398
-    (node 396 rule_396
-    (node 395 rule_395 leaf leaf)
-    (node 397 rule_397 leaf leaf))
-    (node 400 rule_400
-    (node 399 rule_399 leaf leaf) leaf))
-    (node 404 rule_404
-    (node 403 rule_403
-    (node 402 rule_402 leaf leaf) leaf)
-    (node 406 rule_406
-    (node 405 rule_405 leaf leaf) leaf)))
-    (node 414 rule_414
+    (node 382 rule_382 leaf leaf) leaf)))))
     (node 411 rule_411
-    (node 409 rule_409
-    (node 408 rule_408 leaf leaf)
-    (node 410 rule_410 leaf leaf))
+    (node 398 rule_398
+    (node 391 rule_391
+    (node 388 rule_388
+    (node 386 rule_386
+    (node 385 rule_385 leaf leaf)
+    (node 387 rule_387 leaf leaf))
+    (node 390 rule_390
+    (node 389 rule_389 leaf leaf) leaf))
+    (node 395 rule_395
+    (node 393 rule_393
+    (node 392 rule_392 leaf leaf)
+    (node 394 rule_394 leaf leaf))
+    (node 397 rule_397
+    (node 396 rule_396 leaf leaf) leaf)))
+    (node 405 rule_405
+    (node 402 rule_402
+    (node 400 rule_400
+    (node 399 rule_399 leaf leaf)
+    (node 401 rule_401 leaf leaf))
+    (node 404 rule_404
+    (node 403 rule_403 leaf leaf) leaf))
+    (node 408 rule_408
+    (node 407 rule_407
+    (node 406 rule_406 leaf leaf) leaf)
+    (node 410 rule_410
+    (node 409 rule_409 leaf leaf) leaf))))
+    (node 425 rule_425
+    (node 418 rule_418
+    (node 415 rule_415
     (node 413 rule_413
-    (node 412 rule_412 leaf leaf) leaf))
+    (node 412 rule_412 leaf leaf)
+    (node 414 rule_414 leaf leaf))
     (node 417 rule_417
-    (node 416 rule_416
-    (node 415 rule_415 leaf leaf) leaf)
-    (node 419 rule_419
-    (node 418 rule_418 leaf leaf) leaf)))))))
+    (node 416 rule_416 leaf leaf) leaf))
+    (node 422 rule_422
+    (node 420 rule_420
+    (node 419 rule_419 leaf leaf)
+    (node 421 rule_421 leaf leaf))
+    (node 424 rule_424
+    (node 423 rule_423 leaf leaf) leaf)))
+    (node 432 rule_432
+    (node 429 rule_429
+    (node 427 rule_427
+    (node 426 rule_426 leaf leaf)
+    (node 428 rule_428 leaf leaf))
+    (node 431 rule_431
+    (node 430 rule_430 leaf leaf) leaf))
+    (node 435 rule_435
+    (node 434 rule_434
+    (node 433 rule_433 leaf leaf) leaf)
+    (node 437 rule_437
+    (node 436 rule_436 leaf leaf) leaf)))))))
 
 -- the rules of each nonterminal
 abbrev pub sides : Table (List ℕ)
 sides =
-    node 73 (202 ∷ 203 ∷ [])
-    (node 36 (100 ∷ 101 ∷ 102 ∷ [])
+    node 74 (204 ∷ 205 ∷ [])
+    (node 37 (102 ∷ 103 ∷ [])
     (node 18 (52 ∷ 53 ∷ 54 ∷ 55 ∷ 56 ∷ [])
     (node 9 (18 ∷ 19 ∷ [])
     (node 4 (10 ∷ [])
@@ -2141,290 +2234,296 @@ sides =
     (node 16 (34 ∷ 35 ∷ [])
     (node 15 (32 ∷ 33 ∷ []) leaf leaf)
     (node 17 (36 ∷ 37 ∷ 38 ∷ 39 ∷ 40 ∷ 41 ∷ 42 ∷ 43 ∷ 44 ∷ 45 ∷ 46 ∷ 47 ∷ 48 ∷ 49 ∷ 50 ∷ 51 ∷ []) leaf leaf))))
-    (node 27 (78 ∷ 79 ∷ [])
-    (node 23 (66 ∷ 67 ∷ 68 ∷ 69 ∷ 70 ∷ [])
-    (node 21 (61 ∷ 62 ∷ 63 ∷ [])
+    (node 28 (80 ∷ 81 ∷ [])
+    (node 23 (66 ∷ 67 ∷ [])
+    (node 21 (61 ∷ 62 ∷ [])
     (node 20 (59 ∷ 60 ∷ [])
     (node 19 (57 ∷ 58 ∷ []) leaf leaf) leaf)
-    (node 22 (64 ∷ 65 ∷ []) leaf leaf))
-    (node 25 (74 ∷ 75 ∷ [])
-    (node 24 (71 ∷ 72 ∷ 73 ∷ []) leaf leaf)
-    (node 26 (76 ∷ 77 ∷ []) leaf leaf)))
-    (node 32 (88 ∷ 89 ∷ [])
+    (node 22 (63 ∷ 64 ∷ 65 ∷ []) leaf leaf))
+    (node 26 (75 ∷ 76 ∷ 77 ∷ [])
+    (node 25 (73 ∷ 74 ∷ [])
+    (node 24 (68 ∷ 69 ∷ 70 ∷ 71 ∷ 72 ∷ []) leaf leaf) leaf)
+    (node 27 (78 ∷ 79 ∷ []) leaf leaf)))
+    (node 33 (90 ∷ 91 ∷ [])
+    (node 31 (86 ∷ 87 ∷ [])
     (node 30 (84 ∷ 85 ∷ [])
-    (node 29 (82 ∷ 83 ∷ [])
-    (node 28 (80 ∷ 81 ∷ []) leaf leaf) leaf)
-    (node 31 (86 ∷ 87 ∷ []) leaf leaf))
-    (node 34 (92 ∷ 93 ∷ 94 ∷ 95 ∷ 96 ∷ 97 ∷ [])
-    (node 33 (90 ∷ 91 ∷ []) leaf leaf)
-    (node 35 (98 ∷ 99 ∷ []) leaf leaf)))))
-    (node 55 (142 ∷ 143 ∷ [])
-    (node 46 (125 ∷ 126 ∷ [])
-    (node 41 (115 ∷ 116 ∷ [])
-    (node 39 (108 ∷ 109 ∷ 110 ∷ 111 ∷ [])
-    (node 38 (106 ∷ 107 ∷ [])
-    (node 37 (103 ∷ 104 ∷ 105 ∷ []) leaf leaf) leaf)
-    (node 40 (112 ∷ 113 ∷ 114 ∷ []) leaf leaf))
-    (node 44 (121 ∷ 122 ∷ 123 ∷ [])
-    (node 43 (119 ∷ 120 ∷ [])
-    (node 42 (117 ∷ 118 ∷ []) leaf leaf) leaf)
-    (node 45 (124 ∷ []) leaf leaf)))
-    (node 51 (135 ∷ [])
+    (node 29 (82 ∷ 83 ∷ []) leaf leaf) leaf)
+    (node 32 (88 ∷ 89 ∷ []) leaf leaf))
+    (node 35 (94 ∷ 95 ∷ [])
+    (node 34 (92 ∷ 93 ∷ []) leaf leaf)
+    (node 36 (96 ∷ 97 ∷ 98 ∷ 99 ∷ 100 ∷ 101 ∷ []) leaf leaf)))))
+    (node 56 (144 ∷ 145 ∷ [])
+    (node 47 (128 ∷ [])
+    (node 42 (116 ∷ 117 ∷ 118 ∷ [])
+    (node 40 (110 ∷ 111 ∷ [])
+    (node 39 (107 ∷ 108 ∷ 109 ∷ [])
+    (node 38 (104 ∷ 105 ∷ 106 ∷ []) leaf leaf) leaf)
+    (node 41 (112 ∷ 113 ∷ 114 ∷ 115 ∷ []) leaf leaf))
+    (node 45 (123 ∷ 124 ∷ [])
+    (node 44 (121 ∷ 122 ∷ [])
+    (node 43 (119 ∷ 120 ∷ []) leaf leaf) leaf)
+    (node 46 (125 ∷ 126 ∷ 127 ∷ []) leaf leaf)))
+    (node 52 (137 ∷ 138 ∷ [])
+    (node 50 (133 ∷ 134 ∷ [])
     (node 49 (131 ∷ 132 ∷ [])
-    (node 48 (129 ∷ 130 ∷ [])
-    (node 47 (127 ∷ 128 ∷ []) leaf leaf) leaf)
-    (node 50 (133 ∷ 134 ∷ []) leaf leaf))
-    (node 53 (138 ∷ 139 ∷ [])
-    (node 52 (136 ∷ 137 ∷ []) leaf leaf)
-    (node 54 (140 ∷ 141 ∷ []) leaf leaf))))
-    (node 64 (179 ∷ 180 ∷ [])
-    (node 60 (154 ∷ 155 ∷ [])
-    (node 58 (150 ∷ 151 ∷ [])
-    (node 57 (146 ∷ 147 ∷ 148 ∷ 149 ∷ [])
-    (node 56 (144 ∷ 145 ∷ []) leaf leaf) leaf)
-    (node 59 (152 ∷ 153 ∷ 281 ∷ []) leaf leaf))
-    (node 62 (172 ∷ 173 ∷ 174 ∷ 175 ∷ 176 ∷ [])
-    (node 61 (156 ∷ 157 ∷ 158 ∷ 159 ∷ 160 ∷ 161 ∷ 162 ∷ 163 ∷ 164 ∷ 165 ∷ 166 ∷ 167 ∷ 168 ∷ 169 ∷
-    170 ∷ 171 ∷ 280 ∷ []) leaf leaf)
-    (node 63 (177 ∷ 178 ∷ []) leaf leaf)))
-    (node 69 (194 ∷ 195 ∷ [])
-    (node 67 (186 ∷ 187 ∷ 188 ∷ 189 ∷ 190 ∷ [])
-    (node 66 (184 ∷ 185 ∷ [])
-    (node 65 (181 ∷ 182 ∷ 183 ∷ []) leaf leaf) leaf)
-    (node 68 (191 ∷ 192 ∷ 193 ∷ []) leaf leaf))
-    (node 71 (198 ∷ 199 ∷ [])
-    (node 70 (196 ∷ 197 ∷ []) leaf leaf)
-    (node 72 (200 ∷ 201 ∷ []) leaf leaf))))))
-    (node 110 (320 ∷ 321 ∷ 322 ∷ [])
-    (node 92 (249 ∷ 250 ∷ [])
-    (node 83 (228 ∷ 229 ∷ 230 ∷ 231 ∷ [])
-    (node 78 (212 ∷ 213 ∷ 214 ∷ 215 ∷ 216 ∷ 217 ∷ [])
+    (node 48 (129 ∷ 130 ∷ []) leaf leaf) leaf)
+    (node 51 (135 ∷ 136 ∷ []) leaf leaf))
+    (node 54 (140 ∷ 141 ∷ [])
+    (node 53 (139 ∷ []) leaf leaf)
+    (node 55 (142 ∷ 143 ∷ []) leaf leaf))))
+    (node 65 (181 ∷ 182 ∷ [])
+    (node 61 (156 ∷ 157 ∷ 293 ∷ [])
+    (node 59 (150 ∷ 151 ∷ 152 ∷ 153 ∷ [])
+    (node 58 (148 ∷ 149 ∷ [])
+    (node 57 (146 ∷ 147 ∷ []) leaf leaf) leaf)
+    (node 60 (154 ∷ 155 ∷ []) leaf leaf))
+    (node 63 (160 ∷ 161 ∷ 162 ∷ 163 ∷ 164 ∷ 165 ∷ 166 ∷ 167 ∷ 168 ∷ 169 ∷ 170 ∷ 171 ∷ 172 ∷ 173 ∷
+    174 ∷ 175 ∷ 292 ∷ [])
+    (node 62 (158 ∷ 159 ∷ []) leaf leaf)
+    (node 64 (176 ∷ 177 ∷ 178 ∷ 179 ∷ 180 ∷ []) leaf leaf)))
+    (node 70 (192 ∷ 193 ∷ 194 ∷ 195 ∷ 196 ∷ [])
+    (node 68 (187 ∷ 188 ∷ 189 ∷ [])
+    (node 67 (185 ∷ 186 ∷ [])
+    (node 66 (183 ∷ 184 ∷ []) leaf leaf) leaf)
+    (node 69 (190 ∷ 191 ∷ []) leaf leaf))
+    (node 72 (199 ∷ 200 ∷ 201 ∷ [])
+    (node 71 (197 ∷ 198 ∷ []) leaf leaf)
+    (node 73 (202 ∷ 203 ∷ []) leaf leaf))))))
+    (node 112 (322 ∷ [])
+    (node 93 (252 ∷ [])
+    (node 84 (228 ∷ 229 ∷ 230 ∷ [])
+    (node 79 (214 ∷ 215 ∷ [])
+    (node 77 (210 ∷ 211 ∷ [])
     (node 76 (208 ∷ 209 ∷ [])
-    (node 75 (206 ∷ 207 ∷ [])
-    (node 74 (204 ∷ 205 ∷ 289 ∷ []) leaf leaf) leaf)
-    (node 77 (210 ∷ 211 ∷ []) leaf leaf))
-    (node 81 (223 ∷ 224 ∷ 225 ∷ 290 ∷ [])
-    (node 80 (220 ∷ 221 ∷ 222 ∷ [])
-    (node 79 (218 ∷ 219 ∷ []) leaf leaf) leaf)
-    (node 82 (226 ∷ 227 ∷ []) leaf leaf)))
-    (node 88 (241 ∷ 242 ∷ 243 ∷ [])
-    (node 86 (237 ∷ 238 ∷ [])
-    (node 85 (235 ∷ 236 ∷ 282 ∷ [])
-    (node 84 (232 ∷ 233 ∷ 234 ∷ []) leaf leaf) leaf)
-    (node 87 (239 ∷ 240 ∷ []) leaf leaf))
-    (node 90 (245 ∷ 246 ∷ [])
-    (node 89 (244 ∷ []) leaf leaf)
-    (node 91 (247 ∷ 248 ∷ []) leaf leaf))))
-    (node 101 (299 ∷ 300 ∷ [])
-    (node 97 (291 ∷ 292 ∷ 293 ∷ 294 ∷ [])
-    (node 95 (283 ∷ [])
-    (node 94 (257 ∷ 258 ∷ 259 ∷ 260 ∷ 261 ∷ 262 ∷ 263 ∷ 264 ∷ 265 ∷ 266 ∷ 267 ∷ 268 ∷ 269 ∷ 270 ∷
-    271 ∷ 272 ∷ 273 ∷ 274 ∷ 275 ∷ 276 ∷ 277 ∷ 278 ∷ 279 ∷ [])
-    (node 93 (251 ∷ 252 ∷ 253 ∷ 254 ∷ 255 ∷ 256 ∷ []) leaf leaf) leaf)
-    (node 96 (284 ∷ 285 ∷ 286 ∷ 287 ∷ 288 ∷ []) leaf leaf))
-    (node 99 (297 ∷ [])
-    (node 98 (295 ∷ 296 ∷ []) leaf leaf)
-    (node 100 (298 ∷ []) leaf leaf)))
-    (node 106 (308 ∷ [])
-    (node 104 (304 ∷ 305 ∷ [])
-    (node 103 (302 ∷ 303 ∷ [])
-    (node 102 (301 ∷ []) leaf leaf) leaf)
-    (node 105 (306 ∷ 307 ∷ []) leaf leaf))
-    (node 108 (310 ∷ [])
-    (node 107 (309 ∷ []) leaf leaf)
-    (node 109 (311 ∷ 312 ∷ 313 ∷ 314 ∷ 315 ∷ 316 ∷ 317 ∷ 318 ∷ 319 ∷ []) leaf leaf)))))
-    (node 128 (374 ∷ 375 ∷ [])
-    (node 119 (343 ∷ 344 ∷ [])
-    (node 115 (331 ∷ 332 ∷ [])
-    (node 113 (327 ∷ 328 ∷ [])
-    (node 112 (325 ∷ 326 ∷ [])
-    (node 111 (323 ∷ 324 ∷ []) leaf leaf) leaf)
-    (node 114 (329 ∷ 330 ∷ []) leaf leaf))
+    (node 75 (206 ∷ 207 ∷ []) leaf leaf) leaf)
+    (node 78 (212 ∷ 213 ∷ 301 ∷ []) leaf leaf))
+    (node 82 (220 ∷ 221 ∷ 222 ∷ 223 ∷ 224 ∷ 225 ∷ [])
+    (node 81 (218 ∷ 219 ∷ [])
+    (node 80 (216 ∷ 217 ∷ []) leaf leaf) leaf)
+    (node 83 (226 ∷ 227 ∷ []) leaf leaf)))
+    (node 89 (243 ∷ 244 ∷ 294 ∷ [])
+    (node 87 (236 ∷ 237 ∷ 238 ∷ 239 ∷ [])
+    (node 86 (234 ∷ 235 ∷ [])
+    (node 85 (231 ∷ 232 ∷ 233 ∷ 302 ∷ []) leaf leaf) leaf)
+    (node 88 (240 ∷ 241 ∷ 242 ∷ []) leaf leaf))
+    (node 91 (247 ∷ 248 ∷ [])
+    (node 90 (245 ∷ 246 ∷ []) leaf leaf)
+    (node 92 (249 ∷ 250 ∷ 251 ∷ []) leaf leaf))))
+    (node 103 (309 ∷ [])
+    (node 98 (265 ∷ 266 ∷ 267 ∷ 268 ∷ 269 ∷ 270 ∷ 271 ∷ 272 ∷ 273 ∷ 274 ∷ 275 ∷ 276 ∷ 277 ∷ 278 ∷
+    279 ∷ 280 ∷ 281 ∷ 282 ∷ 283 ∷ 284 ∷ 285 ∷ 286 ∷ 287 ∷ 288 ∷ 289 ∷ 290 ∷ 291 ∷ [])
+    (node 96 (257 ∷ 258 ∷ [])
+    (node 95 (255 ∷ 256 ∷ [])
+    (node 94 (253 ∷ 254 ∷ []) leaf leaf) leaf)
+    (node 97 (259 ∷ 260 ∷ 261 ∷ 262 ∷ 263 ∷ 264 ∷ []) leaf leaf))
+    (node 101 (303 ∷ 304 ∷ 305 ∷ 306 ∷ [])
+    (node 100 (296 ∷ 297 ∷ 298 ∷ 299 ∷ 300 ∷ [])
+    (node 99 (295 ∷ []) leaf leaf) leaf)
+    (node 102 (307 ∷ 308 ∷ []) leaf leaf)))
+    (node 108 (316 ∷ 317 ∷ [])
+    (node 106 (313 ∷ [])
+    (node 105 (311 ∷ 312 ∷ [])
+    (node 104 (310 ∷ []) leaf leaf) leaf)
+    (node 107 (314 ∷ 315 ∷ []) leaf leaf))
+    (node 110 (320 ∷ [])
+    (node 109 (318 ∷ 319 ∷ []) leaf leaf)
+    (node 111 (321 ∷ []) leaf leaf)))))
+    (node 131 (386 ∷ 387 ∷ [])
+    (node 122 (353 ∷ 354 ∷ [])
     (node 117 (339 ∷ 340 ∷ [])
-    (node 116 (333 ∷ 334 ∷ 335 ∷ 336 ∷ 337 ∷ 338 ∷ []) leaf leaf)
-    (node 118 (341 ∷ 342 ∷ []) leaf leaf)))
-    (node 124 (366 ∷ 367 ∷ [])
-    (node 122 (353 ∷ 354 ∷ 355 ∷ 356 ∷ 357 ∷ 358 ∷ [])
-    (node 121 (351 ∷ 352 ∷ [])
-    (node 120 (345 ∷ 346 ∷ 347 ∷ 348 ∷ 349 ∷ 350 ∷ []) leaf leaf) leaf)
-    (node 123 (359 ∷ 360 ∷ 361 ∷ 362 ∷ 363 ∷ 364 ∷ 365 ∷ []) leaf leaf))
-    (node 126 (370 ∷ 371 ∷ [])
-    (node 125 (368 ∷ 369 ∷ []) leaf leaf)
-    (node 127 (372 ∷ 373 ∷ []) leaf leaf))))
-    (node 137 (401 ∷ 402 ∷ 403 ∷ 404 ∷ [])
-    (node 133 (384 ∷ 385 ∷ 386 ∷ [])
-    (node 131 (380 ∷ 381 ∷ [])
-    (node 130 (378 ∷ 379 ∷ [])
-    (node 129 (376 ∷ 377 ∷ []) leaf leaf) leaf)
-    (node 132 (382 ∷ 383 ∷ []) leaf leaf))
-    (node 135 (397 ∷ 398 ∷ [])
-    (node 134 (387 ∷ 388 ∷ 389 ∷ 390 ∷ 391 ∷ 392 ∷ 393 ∷ 394 ∷ 395 ∷ 396 ∷ []) leaf leaf)
-    (node 136 (399 ∷ 400 ∷ []) leaf leaf)))
-    (node 142 (412 ∷ 413 ∷ [])
-    (node 140 (409 ∷ [])
-    (node 139 (407 ∷ 408 ∷ [])
-    (node 138 (405 ∷ 406 ∷ []) leaf leaf) leaf)
-    (node 141 (410 ∷ 411 ∷ []) leaf leaf))
-    (node 144 (416 ∷ 417 ∷ 418 ∷ [])
-    (node 143 (414 ∷ 415 ∷ []) leaf leaf)
-    (node 145 (419 ∷ []) leaf leaf))))))
+    (node 115 (335 ∷ 336 ∷ [])
+    (node 114 (332 ∷ 333 ∷ 334 ∷ [])
+    (node 113 (323 ∷ 324 ∷ 325 ∷ 326 ∷ 327 ∷ 328 ∷ 329 ∷ 330 ∷ 331 ∷ []) leaf leaf) leaf)
+    (node 116 (337 ∷ 338 ∷ []) leaf leaf))
+    (node 120 (345 ∷ 346 ∷ 347 ∷ 348 ∷ 349 ∷ 350 ∷ [])
+    (node 119 (343 ∷ 344 ∷ [])
+    (node 118 (341 ∷ 342 ∷ []) leaf leaf) leaf)
+    (node 121 (351 ∷ 352 ∷ []) leaf leaf)))
+    (node 127 (371 ∷ 372 ∷ 373 ∷ 374 ∷ 375 ∷ 376 ∷ 377 ∷ 378 ∷ 379 ∷ [])
+    (node 125 (363 ∷ 364 ∷ [])
+    (node 124 (357 ∷ 358 ∷ 359 ∷ 360 ∷ 361 ∷ 362 ∷ [])
+    (node 123 (355 ∷ 356 ∷ []) leaf leaf) leaf)
+    (node 126 (365 ∷ 366 ∷ 367 ∷ 368 ∷ 369 ∷ 370 ∷ []) leaf leaf))
+    (node 129 (382 ∷ 383 ∷ [])
+    (node 128 (380 ∷ 381 ∷ []) leaf leaf)
+    (node 130 (384 ∷ 385 ∷ []) leaf leaf))))
+    (node 140 (419 ∷ 420 ∷ 421 ∷ 422 ∷ [])
+    (node 136 (398 ∷ 399 ∷ 400 ∷ [])
+    (node 134 (394 ∷ 395 ∷ [])
+    (node 133 (412 ∷ 413 ∷ 414 ∷ [])
+    (node 132 (388 ∷ 389 ∷ 390 ∷ 391 ∷ 392 ∷ 393 ∷ []) leaf leaf) leaf)
+    (node 135 (396 ∷ 397 ∷ []) leaf leaf))
+    (node 138 (415 ∷ 416 ∷ [])
+    (node 137 (401 ∷ 402 ∷ 403 ∷ 404 ∷ 405 ∷ 406 ∷ 407 ∷ 408 ∷ 409 ∷ 410 ∷ 411 ∷ []) leaf leaf)
+    (node 139 (417 ∷ 418 ∷ []) leaf leaf)))
+    (node 145 (430 ∷ 431 ∷ [])
+    (node 143 (427 ∷ [])
+    (node 142 (425 ∷ 426 ∷ [])
+    (node 141 (423 ∷ 424 ∷ []) leaf leaf) leaf)
+    (node 144 (428 ∷ 429 ∷ []) leaf leaf))
+    (node 147 (434 ∷ 435 ∷ 436 ∷ [])
+    (node 146 (432 ∷ 433 ∷ []) leaf leaf)
+    (node 148 (437 ∷ []) leaf leaf))))))
 
 -- what each nonterminal may begin with
 abbrev pub firsts : Table ℕ
 firsts =
-    node 73 146421031359958614017
-    (node 36 72634055065120407553
-    (node 18 111833385397108343808
-    (node 9 68022369046693019649
-    (node 4 549755813888
-    (node 2 549755813888
-    (node 1 1033017668127734890496
-    (node 0 1033017668127734890496 leaf leaf) leaf)
-    (node 3 549755813888 leaf leaf))
-    (node 7 36893488147419103232
-    (node 6 36893488147419103232
-    (node 5 68022369046693019649 leaf leaf) leaf)
-    (node 8 68022369046693019649 leaf leaf)))
-    (node 14 68022369046693019649
-    (node 12 68022369046693019649
-    (node 11 68022369046693019649
-    (node 10 68022369046693019649 leaf leaf) leaf)
-    (node 13 68022369046693019649 leaf leaf))
-    (node 16 68022369046693019649
-    (node 15 131072 leaf leaf)
-    (node 17 68022369046692888577 leaf leaf))))
-    (node 27 72634055065120407553
-    (node 23 111833385397108343808
-    (node 21 111833385671986380800
-    (node 20 111833385397108342784
-    (node 19 111833385397108342784 leaf leaf) leaf)
-    (node 22 111833385397108474880 leaf leaf))
-    (node 25 111833385397108342784
-    (node 24 111833385397108342784 leaf leaf)
-    (node 26 72634055065120407553 leaf leaf)))
-    (node 32 4611686018427518976
-    (node 30 72634055065120407553
-    (node 29 72634055065120407553
-    (node 28 72634055065120407553 leaf leaf) leaf)
-    (node 31 72634055065120407553 leaf leaf))
-    (node 34 72634055065120407553
-    (node 33 72634055065120407553 leaf leaf)
-    (node 35 72634055065120407553 leaf leaf)))))
-    (node 55 141809345341531226113
-    (node 46 68022369046693019649
-    (node 41 131072
-    (node 39 68022369046693019649
-    (node 38 68022369046693019649
-    (node 37 72634055065120407553 leaf leaf) leaf)
-    (node 40 68022369046693019649 leaf leaf))
-    (node 44 68022369046693019649
-    (node 43 68022369046693019649
-    (node 42 68022369046693019649 leaf leaf) leaf)
-    (node 45 68022369046693019649 leaf leaf)))
-    (node 51 36893488147419103232
-    (node 49 141809345341531226113
-    (node 48 68022369046693019649
-    (node 47 68022369046693019649 leaf leaf) leaf)
-    (node 50 36893488147419103232 leaf leaf))
-    (node 53 141809345341531226113
-    (node 52 141809345341531226113 leaf leaf)
-    (node 54 141809345341531226113 leaf leaf))))
-    (node 64 111833385397108342784
-    (node 60 141809345341531226113
-    (node 58 141809345341531226113
-    (node 57 141809345341531226113
-    (node 56 141809345341531226113 leaf leaf) leaf)
-    (node 59 131072 leaf leaf))
-    (node 62 111833385397108343808
-    (node 61 141809345341531095041 leaf leaf)
-    (node 63 111833385397108342784 leaf leaf)))
-    (node 69 111833385397108342784
-    (node 67 111833385397108343808
-    (node 66 111833385397108474880
-    (node 65 111833385671986380800 leaf leaf) leaf)
-    (node 68 111833385397108342784 leaf leaf))
-    (node 71 146421031359958614017
-    (node 70 146421031359958614017 leaf leaf)
-    (node 72 146421031359958614017 leaf leaf))))))
-    (node 110 106032785910705815552
-    (node 92 141809345341531226113
-    (node 83 141809345341531226113
-    (node 78 146421031359958614017
-    (node 76 4611686018427518976
-    (node 75 146421031359958614017
-    (node 74 146421031359958614017 leaf leaf) leaf)
-    (node 77 146421031359958614017 leaf leaf))
-    (node 81 146421031359958614017
-    (node 80 146421031359958614017
-    (node 79 146421031359958614017 leaf leaf) leaf)
-    (node 82 141809345341531226113 leaf leaf)))
-    (node 88 141809345341531226113
-    (node 86 141809345341531226113
-    (node 85 131072
-    (node 84 141809345341531226113 leaf leaf) leaf)
-    (node 87 141809345341531226113 leaf leaf))
-    (node 90 141809345341531226113
-    (node 89 141809345341531226113 leaf leaf)
-    (node 91 141809345341531226113 leaf leaf))))
-    (node 101 68022369046693019649
-    (node 97 1649267441664
-    (node 95 131072
-    (node 94 111833385397108342784
-    (node 93 469762076 leaf leaf) leaf)
-    (node 96 31128880624385392640 leaf leaf))
-    (node 99 1099511627776
-    (node 98 1099511627776 leaf leaf)
-    (node 100 131072 leaf leaf)))
-    (node 106 141809345341531226113
-    (node 104 141809345341531226113
-    (node 103 141809345343678709761
-    (node 102 68022369046693019649 leaf leaf) leaf)
-    (node 105 141809345341531226113 leaf leaf))
-    (node 108 141809345341531226113
-    (node 107 141809345341531226113 leaf leaf)
-    (node 109 106034767230659067904 leaf leaf)))))
-    (node 128 104915856919225827328
-    (node 119 106032749626822098944
-    (node 115 106032749626822098944
-    (node 113 106032749626822098944
-    (node 112 106032749626822098944
-    (node 111 106032749626822098944 leaf leaf) leaf)
-    (node 114 106032749626822098944 leaf leaf))
-    (node 117 106032749626822098944
-    (node 116 106032749626822098944 leaf leaf)
-    (node 118 106032749626822098944 leaf leaf)))
-    (node 124 104915856919234215936
-    (node 122 106032749626822098944
-    (node 121 106032749626822098944
-    (node 120 106032749626822098944 leaf leaf) leaf)
-    (node 123 106032749626822098944 leaf leaf))
-    (node 126 104915856919234215936
-    (node 125 104915856919234215936 leaf leaf)
-    (node 127 104915856919225827328 leaf leaf))))
-    (node 137 109527543006381080576
-    (node 133 102610013910020521984
-    (node 131 104915856919234215936
-    (node 130 102610013910020521984
-    (node 129 102610013910020521984 leaf leaf) leaf)
-    (node 132 104915856919225827328 leaf leaf))
-    (node 135 106034767230659067904
-    (node 134 102610013910012133376 leaf leaf)
-    (node 136 109527543006381080576 leaf leaf)))
-    (node 142 111833385397108473856
-    (node 140 111833385397108342784
-    (node 139 111833385397108342784
-    (node 138 111833385397108342784 leaf leaf) leaf)
-    (node 141 111833385397108473856 leaf leaf))
-    (node 144 111833385397108342784
-    (node 143 111833385397108342784 leaf leaf)
-    (node 145 111833385397108342784 leaf leaf))))))
+    node 74 9370945990543986130945
+    (node 37 4648579507674340917249
+    (node 18 7157336699499794400256
+    (node 9 4353431602494988091393
+    (node 4 2199023255552
+    (node 2 2199023255552
+    (node 1 66113130760175032991744
+    (node 0 66113130760175032991744 leaf leaf) leaf)
+    (node 3 2199023255552 leaf leaf))
+    (node 7 2361183241434822606848
+    (node 6 2361183241434822606848
+    (node 5 4353431602494988091393 leaf leaf) leaf)
+    (node 8 4353431602494988091393 leaf leaf)))
+    (node 14 4353431602494988091393
+    (node 12 4353431602494988091393
+    (node 11 4353431602494988091393
+    (node 10 4353431602494988091393 leaf leaf) leaf)
+    (node 13 4353431602494988091393 leaf leaf))
+    (node 16 4353431602494988091393
+    (node 15 262144 leaf leaf)
+    (node 17 4353431602494987829249 leaf leaf))))
+    (node 28 4648579507674340917249
+    (node 23 7157336699499794662400
+    (node 21 7157336698400282771456
+    (node 20 7157336698400282771456
+    (node 19 1099511628800 leaf leaf) leaf)
+    (node 22 7157336699499794661376 leaf leaf))
+    (node 26 7157336698400282771456
+    (node 25 1099511628800
+    (node 24 7157336699499794400256 leaf leaf) leaf)
+    (node 27 7157336698400282771456 leaf leaf)))
+    (node 33 4648579507674340917249
+    (node 31 4648579507674340917249
+    (node 30 4648579507674340917249
+    (node 29 4648579507674340917249 leaf leaf) leaf)
+    (node 32 4648579507674340917249 leaf leaf))
+    (node 35 4648579507674340917249
+    (node 34 295147905179353088000 leaf leaf)
+    (node 36 4648579507674340917249 leaf leaf)))))
+    (node 56 9075798085364633305089
+    (node 47 4353431602494988091393
+    (node 42 4353431602494988091393
+    (node 40 4353431602494988091393
+    (node 39 4648579507674340917249
+    (node 38 4648579507674340917249 leaf leaf) leaf)
+    (node 41 4353431602494988091393 leaf leaf))
+    (node 45 4353431602494988091393
+    (node 44 4353431602494988091393
+    (node 43 262144 leaf leaf) leaf)
+    (node 46 4353431602494988091393 leaf leaf)))
+    (node 52 2361183241434822606848
+    (node 50 4353431602494988091393
+    (node 49 4353431602494988091393
+    (node 48 4353431602494988091393 leaf leaf) leaf)
+    (node 51 9075798085364633305089 leaf leaf))
+    (node 54 9075798085364633305089
+    (node 53 2361183241434822606848 leaf leaf)
+    (node 55 9075798085364633305089 leaf leaf))))
+    (node 65 1099511628800
+    (node 61 262144
+    (node 59 9075798085364633305089
+    (node 58 9075798085364633305089
+    (node 57 9075798085364633305089 leaf leaf) leaf)
+    (node 60 9075798085364633305089 leaf leaf))
+    (node 63 9075798085364633042945
+    (node 62 9075798085364633305089 leaf leaf)
+    (node 64 7157336699499794400256 leaf leaf)))
+    (node 70 7157336699499794400256
+    (node 68 7157336699499794661376
+    (node 67 7157336698400282771456
+    (node 66 7157336698400282771456 leaf leaf) leaf)
+    (node 69 7157336699499794662400 leaf leaf))
+    (node 72 7157336698400282771456
+    (node 71 1099511628800 leaf leaf)
+    (node 73 7157336698400282771456 leaf leaf))))))
+    (node 112 9075798085364633305089
+    (node 93 9075798085364633305089
+    (node 84 9370945990543986130945
+    (node 79 9370945990543986130945
+    (node 77 9370945990543986130945
+    (node 76 9370945990543986130945
+    (node 75 9370945990543986130945 leaf leaf) leaf)
+    (node 78 9370945990543986130945 leaf leaf))
+    (node 82 9370945990543986130945
+    (node 81 9370945990543986130945
+    (node 80 295147905179353088000 leaf leaf) leaf)
+    (node 83 9370945990543986130945 leaf leaf)))
+    (node 89 262144
+    (node 87 9075798085364633305089
+    (node 86 9075798085364633305089
+    (node 85 9370945990543986130945 leaf leaf) leaf)
+    (node 88 9075798085364633305089 leaf leaf))
+    (node 91 9075798085364633305089
+    (node 90 9075798085364633305089 leaf leaf)
+    (node 92 9075798085364633305089 leaf leaf))))
+    (node 103 4398046511104
+    (node 98 7157336698400282771456
+    (node 96 9075798085364633305089
+    (node 95 9075798085364633305089
+    (node 94 9075798085364633305089 leaf leaf) leaf)
+    (node 97 939524124 leaf leaf))
+    (node 101 6597069766656
+    (node 100 1992248359960632623104
+    (node 99 262144 leaf leaf) leaf)
+    (node 102 4398046511104 leaf leaf)))
+    (node 108 9075798085364633305089
+    (node 106 4353431602494988091393
+    (node 105 4353431602494988091393
+    (node 104 262144 leaf leaf) leaf)
+    (node 107 9075798085368928272385 leaf leaf))
+    (node 110 9075798085364633305089
+    (node 109 9075798085364633305089 leaf leaf)
+    (node 111 9075798085364633305089 leaf leaf)))))
+    (node 131 6567040890240622657536
+    (node 122 6732917471715932766208
+    (node 117 6732917471715932766208
+    (node 115 6732917471715932766208
+    (node 114 6732917616851467632640
+    (node 113 6732925542131280642048 leaf leaf) leaf)
+    (node 116 6732917471715932766208 leaf leaf))
+    (node 120 6732917471715932766208
+    (node 119 6732917471715932766208
+    (node 118 6732917471715932766208 leaf leaf) leaf)
+    (node 121 6732917471715932766208 leaf leaf)))
+    (node 127 6732917471715932766208
+    (node 125 6732917471715932766208
+    (node 124 6732917471715932766208
+    (node 123 6732917471715932766208 leaf leaf) leaf)
+    (node 126 6732917471715932766208 leaf leaf))
+    (node 129 6714614842830299070464
+    (node 128 6714614842830299070464 leaf leaf)
+    (node 130 6714614842830282293248 leaf leaf))))
+    (node 140 7009762748284529803264
+    (node 136 6567040890240622657536
+    (node 134 6714614842830299070464
+    (node 133 9075798085364633305089
+    (node 132 206158561280 leaf leaf) leaf)
+    (node 135 6714614842830282293248 leaf leaf))
+    (node 138 6732925542131280642048
+    (node 137 6567040890240605880320 leaf leaf)
+    (node 139 7009762748284529803264 leaf leaf)))
+    (node 145 7157336698400283033600
+    (node 143 7157336698400282771456
+    (node 142 7157336698400282771456
+    (node 141 7157336698400282771456 leaf leaf) leaf)
+    (node 144 7157336698400283033600 leaf leaf))
+    (node 147 7157336698400282771456
+    (node 146 7157336698400282771456 leaf leaf)
+    (node 148 7157336698400282771456 leaf leaf))))))
 
 -- a height of each nonterminal, and a rule whose parts are lower
 abbrev pub tall : Table (ℕ × ℕ)
 tall =
-    node 73 (4, 202)
-    (node 36 (4, 100)
-    (node 18 (1, 54)
+    node 74 (5, 204)
+    (node 37 (3, 102)
+    (node 18 (2, 54)
     (node 9 (5, 18)
     (node 4 (7, 10)
     (node 2 (9, 6)
@@ -2443,137 +2542,140 @@ tall =
     (node 16 (7, 34)
     (node 15 (7, 32) leaf leaf)
     (node 17 (1, 36) leaf leaf))))
-    (node 27 (5, 78)
-    (node 23 (1, 68)
-    (node 21 (1, 62)
-    (node 20 (7, 59)
-    (node 19 (8, 57) leaf leaf) leaf)
-    (node 22 (2, 64) leaf leaf))
-    (node 25 (3, 74)
-    (node 24 (4, 71) leaf leaf)
-    (node 26 (5, 76) leaf leaf)))
-    (node 32 (1, 88)
-    (node 30 (3, 84)
-    (node 29 (4, 82)
-    (node 28 (4, 80) leaf leaf) leaf)
-    (node 31 (2, 87) leaf leaf))
-    (node 34 (4, 92)
-    (node 33 (4, 90) leaf leaf)
-    (node 35 (3, 98) leaf leaf)))))
-    (node 55 (4, 142)
-    (node 46 (5, 125)
-    (node 41 (8, 115)
-    (node 39 (3, 108)
-    (node 38 (3, 106)
-    (node 37 (2, 103) leaf leaf) leaf)
-    (node 40 (2, 112) leaf leaf))
+    (node 28 (5, 80)
+    (node 23 (3, 66)
+    (node 21 (7, 61)
+    (node 20 (8, 59)
+    (node 19 (1, 57) leaf leaf) leaf)
+    (node 22 (1, 64) leaf leaf))
+    (node 26 (4, 75)
+    (node 25 (1, 73)
+    (node 24 (2, 70) leaf leaf) leaf)
+    (node 27 (3, 78) leaf leaf)))
+    (node 33 (2, 91)
+    (node 31 (4, 86)
+    (node 30 (4, 84)
+    (node 29 (5, 82) leaf leaf) leaf)
+    (node 32 (3, 88) leaf leaf))
+    (node 35 (4, 94)
+    (node 34 (1, 92) leaf leaf)
+    (node 36 (4, 96) leaf leaf)))))
+    (node 56 (4, 144)
+    (node 47 (6, 128)
+    (node 42 (2, 116)
+    (node 40 (3, 110)
+    (node 39 (2, 107)
+    (node 38 (4, 104) leaf leaf) leaf)
+    (node 41 (3, 112) leaf leaf))
+    (node 45 (5, 123)
     (node 44 (7, 121)
-    (node 43 (5, 119)
-    (node 42 (7, 117) leaf leaf) leaf)
-    (node 45 (6, 124) leaf leaf)))
-    (node 51 (6, 135)
-    (node 49 (6, 131)
-    (node 48 (4, 129)
-    (node 47 (4, 127) leaf leaf) leaf)
-    (node 50 (7, 133) leaf leaf))
-    (node 53 (5, 138)
-    (node 52 (5, 136) leaf leaf)
-    (node 54 (4, 140) leaf leaf))))
-    (node 64 (7, 179)
-    (node 60 (7, 154)
-    (node 58 (2, 150)
-    (node 57 (3, 146)
-    (node 56 (3, 144) leaf leaf) leaf)
-    (node 59 (3, 281) leaf leaf))
-    (node 62 (1, 174)
-    (node 61 (1, 156) leaf leaf)
-    (node 63 (8, 177) leaf leaf)))
-    (node 69 (3, 194)
-    (node 67 (1, 188)
-    (node 66 (2, 184)
-    (node 65 (1, 182) leaf leaf) leaf)
-    (node 68 (4, 191) leaf leaf))
-    (node 71 (5, 198)
-    (node 70 (5, 196) leaf leaf)
-    (node 72 (4, 200) leaf leaf))))))
-    (node 110 (10, 322)
-    (node 92 (4, 249)
-    (node 83 (3, 228)
-    (node 78 (4, 212)
-    (node 76 (1, 208)
-    (node 75 (2, 207)
-    (node 74 (3, 204) leaf leaf) leaf)
-    (node 77 (4, 210) leaf leaf))
-    (node 81 (2, 223)
-    (node 80 (4, 220)
-    (node 79 (3, 218) leaf leaf) leaf)
-    (node 82 (3, 226) leaf leaf)))
-    (node 88 (7, 241)
-    (node 86 (7, 237)
-    (node 85 (3, 282)
-    (node 84 (2, 232) leaf leaf) leaf)
-    (node 87 (5, 239) leaf leaf))
-    (node 90 (5, 245)
-    (node 89 (6, 244) leaf leaf)
-    (node 91 (4, 247) leaf leaf))))
-    (node 101 (7, 299)
-    (node 97 (9, 291)
-    (node 95 (2, 283)
-    (node 94 (1, 257)
-    (node 93 (1, 251) leaf leaf) leaf)
-    (node 96 (1, 284) leaf leaf))
-    (node 99 (14, 297)
-    (node 98 (15, 295) leaf leaf)
-    (node 100 (8, 298) leaf leaf)))
-    (node 106 (12, 308)
-    (node 104 (12, 304)
-    (node 103 (13, 302)
-    (node 102 (6, 301) leaf leaf) leaf)
-    (node 105 (13, 306) leaf leaf))
-    (node 108 (11, 310)
-    (node 107 (11, 309) leaf leaf)
-    (node 109 (10, 319) leaf leaf)))))
-    (node 128 (2, 374)
-    (node 119 (5, 343)
-    (node 115 (7, 331)
-    (node 113 (8, 327)
-    (node 112 (9, 325)
-    (node 111 (9, 323) leaf leaf) leaf)
-    (node 114 (8, 329) leaf leaf))
-    (node 117 (6, 339)
-    (node 116 (7, 333) leaf leaf)
-    (node 118 (6, 341) leaf leaf)))
-    (node 124 (3, 366)
-    (node 122 (4, 353)
-    (node 121 (4, 351)
-    (node 120 (5, 345) leaf leaf) leaf)
-    (node 123 (3, 359) leaf leaf))
-    (node 126 (2, 370)
-    (node 125 (2, 368) leaf leaf)
-    (node 127 (2, 372) leaf leaf))))
-    (node 137 (1, 401)
-    (node 133 (2, 384)
-    (node 131 (1, 380)
-    (node 130 (3, 378)
-    (node 129 (3, 376) leaf leaf) leaf)
-    (node 132 (1, 382) leaf leaf))
-    (node 135 (11, 397)
-    (node 134 (1, 387) leaf leaf)
-    (node 136 (2, 399) leaf leaf)))
-    (node 142 (6, 412)
-    (node 140 (11, 409)
-    (node 139 (12, 407)
-    (node 138 (13, 405) leaf leaf) leaf)
-    (node 141 (2, 410) leaf leaf))
-    (node 144 (4, 416)
-    (node 143 (5, 414) leaf leaf)
-    (node 145 (3, 419) leaf leaf))))))
+    (node 43 (8, 119) leaf leaf) leaf)
+    (node 46 (7, 125) leaf leaf)))
+    (node 52 (7, 137)
+    (node 50 (4, 133)
+    (node 49 (4, 131)
+    (node 48 (5, 129) leaf leaf) leaf)
+    (node 51 (6, 135) leaf leaf))
+    (node 54 (5, 140)
+    (node 53 (6, 139) leaf leaf)
+    (node 55 (5, 142) leaf leaf))))
+    (node 65 (1, 181)
+    (node 61 (3, 293)
+    (node 59 (3, 150)
+    (node 58 (3, 148)
+    (node 57 (4, 146) leaf leaf) leaf)
+    (node 60 (2, 154) leaf leaf))
+    (node 63 (1, 160)
+    (node 62 (7, 158) leaf leaf)
+    (node 64 (2, 178) leaf leaf)))
+    (node 70 (2, 194)
+    (node 68 (1, 188)
+    (node 67 (7, 185)
+    (node 66 (8, 183) leaf leaf) leaf)
+    (node 69 (3, 190) leaf leaf))
+    (node 72 (4, 199)
+    (node 71 (1, 197) leaf leaf)
+    (node 73 (3, 202) leaf leaf))))))
+    (node 112 (11, 322)
+    (node 93 (6, 252)
+    (node 84 (4, 228)
+    (node 79 (2, 215)
+    (node 77 (4, 210)
+    (node 76 (4, 208)
+    (node 75 (5, 206) leaf leaf) leaf)
+    (node 78 (3, 212) leaf leaf))
+    (node 82 (4, 220)
+    (node 81 (4, 218)
+    (node 80 (1, 216) leaf leaf) leaf)
+    (node 83 (3, 226) leaf leaf)))
+    (node 89 (3, 294)
+    (node 87 (3, 236)
+    (node 86 (3, 234)
+    (node 85 (2, 231) leaf leaf) leaf)
+    (node 88 (2, 240) leaf leaf))
+    (node 91 (5, 247)
+    (node 90 (7, 245) leaf leaf)
+    (node 92 (7, 249) leaf leaf))))
+    (node 103 (14, 309)
+    (node 98 (1, 265)
+    (node 96 (4, 257)
+    (node 95 (4, 255)
+    (node 94 (5, 253) leaf leaf) leaf)
+    (node 97 (1, 259) leaf leaf))
+    (node 101 (9, 303)
+    (node 100 (1, 296)
+    (node 99 (2, 295) leaf leaf) leaf)
+    (node 102 (15, 307) leaf leaf)))
+    (node 108 (12, 316)
+    (node 106 (6, 313)
+    (node 105 (7, 311)
+    (node 104 (8, 310) leaf leaf) leaf)
+    (node 107 (13, 314) leaf leaf))
+    (node 110 (12, 320)
+    (node 109 (13, 318) leaf leaf)
+    (node 111 (11, 321) leaf leaf)))))
+    (node 131 (3, 386)
+    (node 122 (6, 353)
+    (node 117 (8, 339)
+    (node 115 (9, 335)
+    (node 114 (10, 334)
+    (node 113 (10, 331) leaf leaf) leaf)
+    (node 116 (9, 337) leaf leaf))
+    (node 120 (7, 345)
+    (node 119 (7, 343)
+    (node 118 (8, 341) leaf leaf) leaf)
+    (node 121 (6, 351) leaf leaf)))
+    (node 127 (3, 371)
+    (node 125 (4, 363)
+    (node 124 (5, 357)
+    (node 123 (5, 355) leaf leaf) leaf)
+    (node 126 (4, 365) leaf leaf))
+    (node 129 (2, 382)
+    (node 128 (3, 380) leaf leaf)
+    (node 130 (2, 384) leaf leaf))))
+    (node 140 (1, 419)
+    (node 136 (2, 398)
+    (node 134 (1, 394)
+    (node 133 (10, 412)
+    (node 132 (2, 388) leaf leaf) leaf)
+    (node 135 (1, 396) leaf leaf))
+    (node 138 (11, 415)
+    (node 137 (1, 401) leaf leaf)
+    (node 139 (2, 417) leaf leaf)))
+    (node 145 (6, 430)
+    (node 143 (11, 427)
+    (node 142 (12, 425)
+    (node 141 (13, 423) leaf leaf) leaf)
+    (node 144 (2, 428) leaf leaf))
+    (node 147 (4, 434)
+    (node 146 (5, 432) leaf leaf)
+    (node 148 (3, 437) leaf leaf))))))
 
 -- less for a nonterminal than for the part of a rule of one part
 abbrev pub weights : Table ℕ
 weights =
-    node 73 23
-    (node 36 23
+    node 74 16
+    (node 37 21
     (node 18 21
     (node 9 23
     (node 4 23
@@ -2593,163 +2695,166 @@ weights =
     (node 16 23
     (node 15 23 leaf leaf)
     (node 17 23 leaf leaf))))
-    (node 27 23
-    (node 23 21
-    (node 21 22
-    (node 20 23
-    (node 19 22 leaf leaf) leaf)
-    (node 22 20 leaf leaf))
+    (node 28 17
+    (node 23 20
+    (node 21 23
+    (node 20 22
+    (node 19 23 leaf leaf) leaf)
+    (node 22 22 leaf leaf))
+    (node 26 22
     (node 25 23
-    (node 24 22 leaf leaf)
-    (node 26 17 leaf leaf)))
-    (node 32 23
-    (node 30 19
-    (node 29 23
-    (node 28 18 leaf leaf) leaf)
-    (node 31 20 leaf leaf))
-    (node 34 23
-    (node 33 20 leaf leaf)
-    (node 35 21 leaf leaf)))))
-    (node 55 23
-    (node 46 23
-    (node 41 23
-    (node 39 23
-    (node 38 21
-    (node 37 22 leaf leaf) leaf)
-    (node 40 22 leaf leaf))
-    (node 44 21
-    (node 43 19
-    (node 42 23 leaf leaf) leaf)
-    (node 45 22 leaf leaf)))
-    (node 51 23
-    (node 49 17
-    (node 48 23
-    (node 47 20 leaf leaf) leaf)
-    (node 50 22 leaf leaf))
-    (node 53 23
-    (node 52 18 leaf leaf)
-    (node 54 19 leaf leaf))))
-    (node 64 23
-    (node 60 23
-    (node 58 21
-    (node 57 23
-    (node 56 20 leaf leaf) leaf)
-    (node 59 22 leaf leaf))
-    (node 62 21
-    (node 61 23 leaf leaf)
-    (node 63 22 leaf leaf)))
-    (node 69 23
-    (node 67 21
-    (node 66 20
-    (node 65 22 leaf leaf) leaf)
-    (node 68 22 leaf leaf))
-    (node 71 23
-    (node 70 16 leaf leaf)
-    (node 72 17 leaf leaf))))))
-    (node 110 12
-    (node 92 23
-    (node 83 23
-    (node 78 23
-    (node 76 23
-    (node 75 19
-    (node 74 18 leaf leaf) leaf)
-    (node 77 20 leaf leaf))
-    (node 81 22
-    (node 80 23
-    (node 79 21 leaf leaf) leaf)
-    (node 82 20 leaf leaf)))
-    (node 88 21
-    (node 86 23
-    (node 85 22
-    (node 84 21 leaf leaf) leaf)
-    (node 87 18 leaf leaf))
-    (node 90 23
-    (node 89 22 leaf leaf)
-    (node 91 19 leaf leaf))))
-    (node 101 22
-    (node 97 21
-    (node 95 23
-    (node 94 23
-    (node 93 23 leaf leaf) leaf)
-    (node 96 23 leaf leaf))
-    (node 99 23
-    (node 98 22 leaf leaf)
-    (node 100 23 leaf leaf)))
-    (node 106 23
-    (node 104 22
-    (node 103 21
-    (node 102 23 leaf leaf) leaf)
-    (node 105 22 leaf leaf))
-    (node 108 23
-    (node 107 23 leaf leaf)
-    (node 109 12 leaf leaf)))))
-    (node 128 23
-    (node 119 17
-    (node 115 15
-    (node 113 14
+    (node 24 21 leaf leaf) leaf)
+    (node 27 23 leaf leaf)))
+    (node 33 20
+    (node 31 23
+    (node 30 18
+    (node 29 23 leaf leaf) leaf)
+    (node 32 19 leaf leaf))
+    (node 35 20
+    (node 34 23 leaf leaf)
+    (node 36 23 leaf leaf)))))
+    (node 56 19
+    (node 47 22
+    (node 42 22
+    (node 40 21
+    (node 39 22
+    (node 38 23 leaf leaf) leaf)
+    (node 41 23 leaf leaf))
+    (node 45 19
+    (node 44 23
+    (node 43 23 leaf leaf) leaf)
+    (node 46 21 leaf leaf)))
+    (node 52 22
+    (node 50 23
+    (node 49 20
+    (node 48 23 leaf leaf) leaf)
+    (node 51 17 leaf leaf))
+    (node 54 18
+    (node 53 23 leaf leaf)
+    (node 55 23 leaf leaf))))
+    (node 65 23
+    (node 61 22
+    (node 59 23
+    (node 58 20
+    (node 57 23 leaf leaf) leaf)
+    (node 60 21 leaf leaf))
+    (node 63 23
+    (node 62 23 leaf leaf)
+    (node 64 21 leaf leaf)))
+    (node 70 21
+    (node 68 22
+    (node 67 23
+    (node 66 22 leaf leaf) leaf)
+    (node 69 20 leaf leaf))
+    (node 72 22
+    (node 71 23 leaf leaf)
+    (node 73 23 leaf leaf))))))
     (node 112 23
-    (node 111 13 leaf leaf) leaf)
-    (node 114 23 leaf leaf))
-    (node 117 16
-    (node 116 23 leaf leaf)
-    (node 118 23 leaf leaf)))
-    (node 124 23
-    (node 122 23
-    (node 121 18
-    (node 120 23 leaf leaf) leaf)
-    (node 123 19 leaf leaf))
-    (node 126 23
-    (node 125 20 leaf leaf)
-    (node 127 21 leaf leaf))))
-    (node 137 20
-    (node 133 22
+    (node 93 22
+    (node 84 23
+    (node 79 19
+    (node 77 23
+    (node 76 17
+    (node 75 23 leaf leaf) leaf)
+    (node 78 18 leaf leaf))
+    (node 82 23
+    (node 81 20
+    (node 80 23 leaf leaf) leaf)
+    (node 83 21 leaf leaf)))
+    (node 89 22
+    (node 87 23
+    (node 86 20
+    (node 85 22 leaf leaf) leaf)
+    (node 88 21 leaf leaf))
+    (node 91 18
+    (node 90 23 leaf leaf)
+    (node 92 21 leaf leaf))))
+    (node 103 23
+    (node 98 23
+    (node 96 23
+    (node 95 19
+    (node 94 23 leaf leaf) leaf)
+    (node 97 23 leaf leaf))
+    (node 101 21
+    (node 100 23
+    (node 99 23 leaf leaf) leaf)
+    (node 102 22 leaf leaf)))
+    (node 108 22
+    (node 106 23
+    (node 105 22
+    (node 104 23 leaf leaf) leaf)
+    (node 107 21 leaf leaf))
+    (node 110 23
+    (node 109 22 leaf leaf)
+    (node 111 23 leaf leaf)))))
     (node 131 21
-    (node 130 23
-    (node 129 21 leaf leaf) leaf)
-    (node 132 22 leaf leaf))
-    (node 135 23
-    (node 134 23 leaf leaf)
-    (node 136 19 leaf leaf)))
-    (node 142 20
-    (node 140 23
-    (node 139 22
-    (node 138 21 leaf leaf) leaf)
-    (node 141 22 leaf leaf))
-    (node 144 22
-    (node 143 21 leaf leaf)
-    (node 145 23 leaf leaf))))))
+    (node 122 23
+    (node 117 14
+    (node 115 13
+    (node 114 12
+    (node 113 12 leaf leaf) leaf)
+    (node 116 23 leaf leaf))
+    (node 120 23
+    (node 119 15
+    (node 118 23 leaf leaf) leaf)
+    (node 121 16 leaf leaf)))
+    (node 127 19
+    (node 125 18
+    (node 124 23
+    (node 123 17 leaf leaf) leaf)
+    (node 126 23 leaf leaf))
+    (node 129 20
+    (node 128 23 leaf leaf)
+    (node 130 21 leaf leaf))))
+    (node 140 20
+    (node 136 22
+    (node 134 21
+    (node 133 23
+    (node 132 23 leaf leaf) leaf)
+    (node 135 22 leaf leaf))
+    (node 138 23
+    (node 137 23 leaf leaf)
+    (node 139 19 leaf leaf)))
+    (node 145 20
+    (node 143 23
+    (node 142 22
+    (node 141 21 leaf leaf) leaf)
+    (node 144 22 leaf leaf))
+    (node 147 22
+    (node 146 21 leaf leaf)
+    (node 148 23 leaf leaf))))))
 
 -- the states
 -- at the beginning
 abbrev pub state_0 : Row
 state_0 = at
-    ((0, 0, 1180591620717411303424) ∷ [])
-    ((1, begin_at 1 0 0 1180591620717411303424) ∷ [])
-    ((67, (0, 2)) ∷ (68, (0, 3)) ∷ (69, (0, 4)) ∷ [])
+    ((0, 0, 75557863725914323419136) ∷ [])
+    ((1, begin_at 1 0 0 75557863725914323419136) ∷ [])
+    ((73, (0, 2)) ∷ (74, (0, 3)) ∷ (75, (0, 4)) ∷ [])
     ((1, 1) ∷ [])
     []
 
 -- after Start
 abbrev pub state_1 : Row
 state_1 = at
-    ((0, 1, 1180591620717411303424) ∷ [])
+    ((0, 1, 75557863725914323419136) ∷ [])
     []
     []
     []
-    ((0, 1180591620717411303424) ∷ [])
+    ((0, 75557863725914323419136) ∷ [])
 
 -- after TypeText
 abbrev pub state_2 : Row
 state_2 = at
-    ((1, 1, 1180591620717411303424) ∷ [])
-    ((5, begin_at 1 1 1 1180591620717411303424) ∷ (8, begin_at 2 11 0 1180593872517224988672) ∷
-    (9, begin_at 3 17 0 1180593872517224988672) ∷ (10, begin_at 3 16 0 1180593872517224988800) ∷
-    (11, begin_at 4 21 0 1180593872519372472448) ∷ (12, begin_at 4 20 0 1180593872519372472448) ∷
-    (13, begin_at 5 25 0 1180593872524741181568) ∷ (14, begin_at 5 24 0 1180593872524741181568) ∷
-    (15, begin_at 6 31 0 1180593872524741181568) ∷ (17, begin_at 6 30 0 1180593872524741181568) ∷
+    ((1, 1, 75557863725914323419136) ∷ [])
+    ((5, begin_at 1 1 1 75557863725914323419136) ∷ (8, begin_at 2 11 0 75557872733113578160128) ∷
+    (9, begin_at 3 17 0 75557872733113578160128) ∷ (10, begin_at 3 16 0 75557872733113578160256) ∷
+    (11, begin_at 4 21 0 75557872733117873127552) ∷ (12, begin_at 4 20 0 75557872733117873127552) ∷
+    (13, begin_at 5 25 0 75557872733128610545792) ∷ (14, begin_at 5 24 0 75557872733128610545792) ∷
+    (15, begin_at 6 31 0 75557872733128610545792) ∷ (17, begin_at 6 30 0 75557872733128610545792) ∷
     [])
-    ((0, (0, 15)) ∷ (17, (1, 16)) ∷ (19, (1, 17)) ∷ (21, (1, 18)) ∷ (23, (1, 19)) ∷ (38, (0, 20)) ∷
-    (60, (0, 21)) ∷ (61, (0, 22)) ∷ (63, (0, 23)) ∷ (64, (0, 24)) ∷ (65, (0, 25)) ∷ [])
+    ((0, (0, 15)) ∷ (18, (1, 16)) ∷ (20, (1, 17)) ∷ (22, (1, 18)) ∷ (24, (1, 19)) ∷ (40, (0, 20)) ∷
+    (66, (0, 21)) ∷ (67, (0, 22)) ∷ (69, (0, 23)) ∷ (70, (0, 24)) ∷ (71, (0, 25)) ∷ [])
     ((5, 5) ∷ (8, 6) ∷ (9, 7) ∷ (10, 8) ∷ (11, 9) ∷ (12, 10) ∷ (13, 11) ∷ (14, 12) ∷ (15, 13) ∷
     (17, 14) ∷ [])
     []
@@ -2757,138 +2862,139 @@ state_2 = at
 -- after TypeFile
 abbrev pub state_3 : Row
 state_3 = at
-    ((2, 1, 1180591620717411303424) ∷ (3, 1, 1180591620717411303424) ∷ [])
-    ((2, begin_at 1 3 1 1180591621267167117312) ∷ (3, begin_at 2 6 0 1180591621267167117312) ∷
-    (4, begin_at 3 8 0 1180591621267167182848) ∷ [])
-    ((39, (0, 29)) ∷ [])
+    ((2, 1, 75557863725914323419136) ∷ (3, 1, 75557863725914323419136) ∷ [])
+    ((2, begin_at 1 3 1 75557863728113346674688) ∷ (3, begin_at 2 6 0 75557863728113346674688) ∷
+    (4, begin_at 3 8 0 75557863728113346740224) ∷ [])
+    ((41, (0, 29)) ∷ [])
     ((2, 26) ∷ (3, 27) ∷ (4, 28) ∷ [])
-    ((2, 1180591620717411303424) ∷ [])
+    ((2, 75557863725914323419136) ∷ [])
 
 -- after ProgramText
 abbrev pub state_4 : Row
 state_4 = at
-    ((4, 1, 1180591620717411303424) ∷ (5, 1, 1180591620717411303424) ∷ [])
-    ((3, begin_at 2 291 0 1180591622366678745088) ∷ (4, begin_at 3 8 0 1180591622366678810624) ∷
-    (97, begin_at 1 5 1 1180591622366678745088) ∷ (98, begin_at 2 292 0 1180591622366678745088) ∷
-    (99, begin_at 3 295 0 1180591622366678810624) ∷ [])
-    ((39, (0, 29)) ∷ (40, (1, 34)) ∷ [])
-    ((3, 30) ∷ (4, 28) ∷ (97, 31) ∷ (98, 32) ∷ (99, 33) ∷ [])
-    ((4, 1180591620717411303424) ∷ [])
+    ((4, 1, 75557863725914323419136) ∷ (5, 1, 75557863725914323419136) ∷ [])
+    ((3, begin_at 2 303 0 75557863732511393185792) ∷ (4, begin_at 3 8 0 75557863732511393251328) ∷
+    (101, begin_at 1 5 1 75557863732511393185792) ∷
+    (102, begin_at 2 304 0 75557863732511393185792) ∷
+    (103, begin_at 3 307 0 75557863732511393251328) ∷ [])
+    ((41, (0, 29)) ∷ (42, (1, 34)) ∷ [])
+    ((3, 30) ∷ (4, 28) ∷ (101, 31) ∷ (102, 32) ∷ (103, 33) ∷ [])
+    ((4, 75557863725914323419136) ∷ [])
 
 -- after TypeText Tree
 abbrev pub state_5 : Row
 state_5 = at
-    ((1, 2, 1180591620717411303424) ∷ [])
+    ((1, 2, 75557863725914323419136) ∷ [])
     []
     []
     []
-    ((1, 1180591620717411303424) ∷ [])
+    ((1, 75557863725914323419136) ∷ [])
 
 -- after TypeText Arrow
 abbrev pub state_6 : Row
 state_6 = at
-    ((11, 1, 1180591622392453071872) ∷ (12, 1, 1180591622392453071872) ∷ [])
+    ((11, 1, 75557863733662453400576) ∷ (12, 1, 75557863733662453400576) ∷ [])
     []
-    ((51, (0, 35)) ∷ [])
+    ((53, (0, 35)) ∷ [])
     []
-    ((11, 1180591622392453071872) ∷ [])
+    ((11, 75557863733662453400576) ∷ [])
 
 -- after TypeText Arrows
 abbrev pub state_7 : Row
 state_7 = at
-    ((17, 1, 1180598377791894127616) ∷ [])
+    ((17, 1, 75557890755260217623552) ∷ [])
     []
     []
     []
-    ((17, 1180598377791894127616) ∷ [])
+    ((17, 75557890755260217623552) ∷ [])
 
 -- after TypeText Union
 abbrev pub state_8 : Row
 state_8 = at
-    ((16, 1, 1180598377791894127616) ∷ (18, 1, 1180598377791894127616) ∷
-    (19, 1, 1180598377791894127616) ∷ [])
+    ((16, 1, 75557890755260217623552) ∷ (18, 1, 75557890755260217623552) ∷
+    (19, 1, 75557890755260217623552) ∷ [])
     []
     ((7, (1, 36)) ∷ [])
     []
-    ((16, 1180598377791894127616) ∷ [])
+    ((16, 75557890755260217623552) ∷ [])
 
 -- after TypeText Meets
 abbrev pub state_9 : Row
 state_9 = at
-    ((21, 1, 1180598377791894127744) ∷ (23, 1, 1180598377794041611392) ∷ [])
+    ((21, 1, 75557890755260217623680) ∷ (23, 1, 75557890755264512590976) ∷ [])
     []
-    ((31, (0, 37)) ∷ [])
+    ((32, (0, 37)) ∷ [])
     []
-    ((21, 1180598377791894127744) ∷ [])
+    ((21, 75557890755260217623680) ∷ [])
 
 -- after TypeText Meet
 abbrev pub state_10 : Row
 state_10 = at
-    ((20, 1, 1180598377791894127744) ∷ (22, 1, 1180598377794041611392) ∷ [])
+    ((20, 1, 75557890755260217623680) ∷ (22, 1, 75557890755264512590976) ∷ [])
     []
-    ((31, (0, 38)) ∷ [])
+    ((32, (0, 38)) ∷ [])
     []
-    ((20, 1180598377791894127744) ∷ [])
+    ((20, 75557890755260217623680) ∷ [])
 
 -- after TypeText Signs
 abbrev pub state_11 : Row
 state_11 = at
-    ((25, 1, 1180598377794041611392) ∷ (28, 1, 1180598377799410320512) ∷
-    (29, 1, 1180598377799410320512) ∷ [])
+    ((25, 1, 75557890755264512590976) ∷ (28, 1, 75557890755275250009216) ∷
+    (29, 1, 75557890755275250009216) ∷ [])
     []
-    ((30, (0, 39)) ∷ (32, (0, 40)) ∷ [])
+    ((31, (0, 39)) ∷ (33, (0, 40)) ∷ [])
     []
-    ((25, 1180598377794041611392) ∷ [])
+    ((25, 75557890755264512590976) ∷ [])
 
 -- after TypeText Simple
 abbrev pub state_12 : Row
 state_12 = at
-    ((24, 1, 1180598377794041611392) ∷ (26, 1, 1180598377799410320512) ∷
-    (27, 1, 1180598377799410320512) ∷ [])
+    ((24, 1, 75557890755264512590976) ∷ (26, 1, 75557890755275250009216) ∷
+    (27, 1, 75557890755275250009216) ∷ [])
     []
-    ((30, (0, 41)) ∷ (32, (0, 42)) ∷ [])
+    ((31, (0, 41)) ∷ (33, (0, 42)) ∷ [])
     []
-    ((24, 1180598377794041611392) ∷ [])
+    ((24, 75557890755264512590976) ∷ [])
 
 -- after TypeText Paren
 abbrev pub state_13 : Row
 state_13 = at
-    ((31, 1, 1328165573065999058077) ∷ [])
+    ((31, 1, 85002596690621680649373) ∷ [])
     []
     []
     []
-    ((31, 1328165573065999058077) ∷ [])
+    ((31, 85002596690621680649373) ∷ [])
 
 -- after TypeText Bare
 abbrev pub state_14 : Row
 state_14 = at
-    ((30, 1, 1328165573065999058077) ∷ [])
+    ((30, 1, 85002596690621680649373) ∷ [])
     []
     []
     []
-    ((30, 1328165573065999058077) ∷ [])
+    ((30, 85002596690621680649373) ∷ [])
 
 -- after TypeText '*--
 abbrev pub state_15 : Row
 state_15 = at
-    ((39, 1, 1328165573065999058077) ∷ [])
+    ((39, 1, 85002596690621680649373) ∷ [])
     []
-    ((60, (0, 43)) ∷ [])
+    ((66, (0, 43)) ∷ [])
     []
     []
 
 -- after TypeText ^(
 abbrev pub state_16 : Row
 state_16 = at
-    ((32, 1, 1328165573065999058077) ∷ (33, 1, 1328165573065999058077) ∷ [])
-    ((5, begin_at 1 32 1 8590196736) ∷ (8, begin_at 2 11 0 2251808403881984) ∷
-    (9, begin_at 3 17 0 2251808403881984) ∷ (10, begin_at 3 16 0 2251808403882112) ∷
-    (11, begin_at 4 21 0 2251810551365760) ∷ (12, begin_at 4 20 0 2251810551365760) ∷
-    (13, begin_at 5 25 0 2251815920074880) ∷ (14, begin_at 5 24 0 2251815920074880) ∷
-    (15, begin_at 6 31 0 2251815920074880) ∷ (16, begin_at 1 33 1 8590196736) ∷
-    (17, begin_at 6 30 0 2251815920074880) ∷ [])
-    ((0, (0, 15)) ∷ (17, (1, 16)) ∷ (19, (1, 17)) ∷ (21, (1, 18)) ∷ (23, (1, 19)) ∷ (38, (0, 20)) ∷
-    (60, (0, 21)) ∷ (61, (0, 22)) ∷ (63, (0, 23)) ∷ (64, (0, 24)) ∷ (65, (0, 25)) ∷ [])
+    ((32, 1, 85002596690621680649373) ∷ (33, 1, 85002596690621680649373) ∷ [])
+    ((5, begin_at 1 32 1 17180393472) ∷ (8, begin_at 2 11 0 9007216435134464) ∷
+    (9, begin_at 3 17 0 9007216435134464) ∷ (10, begin_at 3 16 0 9007216435134592) ∷
+    (11, begin_at 4 21 0 9007220730101888) ∷ (12, begin_at 4 20 0 9007220730101888) ∷
+    (13, begin_at 5 25 0 9007231467520128) ∷ (14, begin_at 5 24 0 9007231467520128) ∷
+    (15, begin_at 6 31 0 9007231467520128) ∷ (16, begin_at 1 33 1 17180393472) ∷
+    (17, begin_at 6 30 0 9007231467520128) ∷ [])
+    ((0, (0, 15)) ∷ (18, (1, 16)) ∷ (20, (1, 17)) ∷ (22, (1, 18)) ∷ (24, (1, 19)) ∷ (40, (0, 20)) ∷
+    (66, (0, 21)) ∷ (67, (0, 22)) ∷ (69, (0, 23)) ∷ (70, (0, 24)) ∷ (71, (0, 25)) ∷ [])
     ((5, 44) ∷ (8, 6) ∷ (9, 7) ∷ (10, 8) ∷ (11, 9) ∷ (12, 10) ∷ (13, 11) ∷ (14, 12) ∷ (15, 13) ∷
     (16, 45) ∷ (17, 14) ∷ [])
     []
@@ -2896,7265 +3002,7680 @@ state_16 = at
 -- after TypeText ^[
 abbrev pub state_17 : Row
 state_17 = at
-    ((48, 1, 1328165573065999058077) ∷ (49, 1, 1328165573065999058077) ∷ [])
-    ((17, begin_at 7 112 0 72634055073107410973) ∷ (26, begin_at 1 49 1 1048576) ∷
-    (27, begin_at 2 77 0 2148532224) ∷ (28, begin_at 2 76 0 2148532224) ∷
-    (29, begin_at 3 81 0 72634055067268939777) ∷ (30, begin_at 3 80 0 72634055067268939777) ∷
-    (31, begin_at 4 84 0 72634055067738701853) ∷ (32, begin_at 5 87 0 72634055067738701853) ∷
-    (38, begin_at 5 86 0 72634055067738701853) ∷ (39, begin_at 6 107 0 72634055073107410973) ∷
-    (40, begin_at 6 106 0 72634055073107410973) ∷ (41, begin_at 7 114 0 72634055073107410973) ∷ [])
-    ((0, (0, 15)) ∷ (17, (1, 58)) ∷ (19, (1, 17)) ∷ (20, (0, 59)) ∷ (21, (1, 18)) ∷ (23, (1, 19)) ∷
-    (38, (0, 20)) ∷ (60, (0, 21)) ∷ (61, (0, 22)) ∷ (62, (0, 60)) ∷ (63, (0, 23)) ∷ (64, (0, 24)) ∷
-    (65, (0, 25)) ∷ [])
-    ((17, 46) ∷ (26, 47) ∷ (27, 48) ∷ (28, 49) ∷ (29, 50) ∷ (30, 51) ∷ (31, 52) ∷ (32, 53) ∷
-    (38, 54) ∷ (39, 55) ∷ (40, 56) ∷ (41, 57) ∷ [])
+    ((48, 1, 85002596690621680649373) ∷ (49, 1, 85002596690621680649373) ∷ [])
+    ((17, begin_at 7 116 0 4648579507690314924061) ∷ (28, begin_at 1 49 1 2097152) ∷
+    (29, begin_at 2 81 0 4297064448) ∷ (30, begin_at 2 80 0 4297064448) ∷
+    (31, begin_at 3 85 0 4648579507678637981697) ∷ (32, begin_at 3 84 0 4648579507678637981697) ∷
+    (33, begin_at 4 88 0 4648579507679577505821) ∷ (34, begin_at 5 91 0 4648579507679577505821) ∷
+    (40, begin_at 5 90 0 4648579507679577505821) ∷ (41, begin_at 6 111 0 4648579507690314924061) ∷
+    (42, begin_at 6 110 0 4648579507690314924061) ∷ (43, begin_at 7 118 0 4648579507690314924061) ∷
+    [])
+    ((0, (0, 15)) ∷ (18, (1, 58)) ∷ (20, (1, 17)) ∷ (21, (0, 59)) ∷ (22, (1, 18)) ∷ (24, (1, 19)) ∷
+    (40, (0, 20)) ∷ (66, (0, 21)) ∷ (67, (0, 22)) ∷ (68, (0, 60)) ∷ (69, (0, 23)) ∷ (70, (0, 24)) ∷
+    (71, (0, 25)) ∷ [])
+    ((17, 46) ∷ (28, 47) ∷ (29, 48) ∷ (30, 49) ∷ (31, 50) ∷ (32, 51) ∷ (33, 52) ∷ (34, 53) ∷
+    (40, 54) ∷ (41, 55) ∷ (42, 56) ∷ (43, 57) ∷ [])
     []
 
 -- after TypeText ^{
 abbrev pub state_18 : Row
 state_18 = at
-    ((46, 1, 1328165573065999058077) ∷ (47, 1, 1328165573065999058077) ∷ [])
-    ((18, begin_at 1 47 1 4194304) ∷ (19, begin_at 2 52 0 17184064512) ∷
-    (20, begin_at 3 57 0 17184064512) ∷ (94, begin_at 4 59 0 33554464) ∷ [])
-    ((10, (0, 65)) ∷ (22, (0, 66)) ∷ (39, (0, 67)) ∷ (40, (0, 68)) ∷ (41, (0, 69)) ∷ (42, (0, 70)) ∷
-    (43, (0, 71)) ∷ (44, (0, 72)) ∷ (45, (0, 73)) ∷ (46, (0, 74)) ∷ (47, (0, 75)) ∷ (48, (0, 76)) ∷
-    (49, (0, 77)) ∷ (50, (0, 78)) ∷ (51, (0, 79)) ∷ (52, (0, 80)) ∷ (53, (0, 81)) ∷ (54, (0, 82)) ∷
-    (55, (0, 83)) ∷ (56, (0, 84)) ∷ (57, (0, 85)) ∷ (58, (0, 86)) ∷ (59, (0, 87)) ∷ (65, (0, 88)) ∷
-    (66, (0, 89)) ∷ [])
-    ((18, 61) ∷ (19, 62) ∷ (20, 63) ∷ (94, 64) ∷ [])
+    ((46, 1, 85002596690621680649373) ∷ (47, 1, 85002596690621680649373) ∷ [])
+    ((18, begin_at 1 47 1 8388608) ∷ (19, begin_at 2 54 0 8388608) ∷
+    (20, begin_at 2 52 0 1133879755776) ∷ (21, begin_at 3 59 0 1133879755776) ∷
+    (98, begin_at 4 61 0 67108896) ∷ [])
+    ((10, (0, 66)) ∷ (23, (0, 67)) ∷ (40, (0, 68)) ∷ (41, (0, 69)) ∷ (42, (0, 70)) ∷ (43, (0, 71)) ∷
+    (44, (0, 72)) ∷ (45, (0, 73)) ∷ (46, (0, 74)) ∷ (47, (0, 75)) ∷ (48, (0, 76)) ∷ (49, (0, 77)) ∷
+    (50, (0, 78)) ∷ (51, (0, 79)) ∷ (52, (0, 80)) ∷ (53, (0, 81)) ∷ (54, (0, 82)) ∷ (55, (0, 83)) ∷
+    (56, (0, 84)) ∷ (57, (0, 85)) ∷ (58, (0, 86)) ∷ (59, (0, 87)) ∷ (60, (0, 88)) ∷ (61, (0, 89)) ∷
+    (62, (0, 90)) ∷ (63, (0, 91)) ∷ (64, (0, 92)) ∷ (65, (0, 93)) ∷ (71, (0, 94)) ∷ (72, (0, 95)) ∷
+    [])
+    ((18, 61) ∷ (19, 62) ∷ (20, 63) ∷ (21, 64) ∷ (98, 65) ∷ [])
     []
 
 -- after TypeText ^<
 abbrev pub state_19 : Row
 state_19 = at
-    ((50, 1, 1328165573065999058077) ∷ (51, 1, 1328165573065999058077) ∷ [])
-    ((21, begin_at 1 50 1 111833385397125252096) ∷ (94, begin_at 2 61 0 111833385397125252096) ∷ [])
-    ((17, (1, 92)) ∷ (38, (0, 93)) ∷ (39, (0, 67)) ∷ (40, (0, 68)) ∷ (41, (0, 69)) ∷ (42, (0, 70)) ∷
-    (43, (0, 71)) ∷ (44, (0, 72)) ∷ (45, (0, 73)) ∷ (46, (0, 74)) ∷ (47, (0, 75)) ∷ (48, (0, 76)) ∷
-    (49, (0, 77)) ∷ (50, (0, 78)) ∷ (51, (0, 79)) ∷ (52, (0, 80)) ∷ (53, (0, 81)) ∷ (54, (0, 82)) ∷
-    (55, (0, 83)) ∷ (56, (0, 84)) ∷ (57, (0, 85)) ∷ (58, (0, 86)) ∷ (59, (0, 87)) ∷ (65, (0, 88)) ∷
-    (66, (0, 89)) ∷ [])
-    ((21, 90) ∷ (94, 91) ∷ [])
+    ((50, 1, 85002596690621680649373) ∷ (51, 1, 85002596690621680649373) ∷ [])
+    ((22, begin_at 1 50 1 7157336699499828216832) ∷ (98, begin_at 2 63 0 7157336699499828216832) ∷
+    [])
+    ((18, (1, 98)) ∷ (40, (0, 99)) ∷ (41, (0, 69)) ∷ (42, (0, 70)) ∷ (43, (0, 71)) ∷ (44, (0, 72)) ∷
+    (45, (0, 73)) ∷ (46, (0, 74)) ∷ (47, (0, 75)) ∷ (48, (0, 76)) ∷ (49, (0, 77)) ∷ (50, (0, 78)) ∷
+    (51, (0, 79)) ∷ (52, (0, 80)) ∷ (53, (0, 81)) ∷ (54, (0, 82)) ∷ (55, (0, 83)) ∷ (56, (0, 84)) ∷
+    (57, (0, 85)) ∷ (58, (0, 86)) ∷ (59, (0, 87)) ∷ (60, (0, 88)) ∷ (61, (0, 89)) ∷ (62, (0, 90)) ∷
+    (63, (0, 91)) ∷ (64, (0, 92)) ∷ (65, (0, 93)) ∷ (71, (0, 94)) ∷ (72, (0, 95)) ∷ [])
+    ((22, 96) ∷ (98, 97) ∷ [])
     []
 
 -- after TypeText '_
 abbrev pub state_20 : Row
 state_20 = at
-    ((44, 1, 1328165573065999058077) ∷ [])
+    ((44, 1, 85002596690621680649373) ∷ [])
     []
     []
     []
-    ((44, 1328165573065999058077) ∷ [])
+    ((44, 85002596690621680649373) ∷ [])
 
 -- after TypeText Int
 abbrev pub state_21 : Row
 state_21 = at
-    ((36, 1, 1328165573065999058077) ∷ (37, 1, 1328165573065999058077) ∷
-    (38, 1, 1328165573065999058077) ∷ [])
+    ((36, 1, 85002596690621680649373) ∷ (37, 1, 85002596690621680649373) ∷
+    (38, 1, 85002596690621680649373) ∷ [])
     []
-    ((1, (0, 94)) ∷ (6, (0, 95)) ∷ [])
+    ((1, (0, 100)) ∷ (6, (0, 101)) ∷ [])
     []
-    ((36, 1328165573065999058077) ∷ [])
+    ((36, 85002596690621680649373) ∷ [])
 
 -- after TypeText Char1
 abbrev pub state_22 : Row
 state_22 = at
-    ((40, 1, 1328165573065999058077) ∷ (41, 1, 1328165573065999058077) ∷ [])
+    ((40, 1, 85002596690621680649373) ∷ (41, 1, 85002596690621680649373) ∷ [])
     []
-    ((6, (0, 96)) ∷ [])
+    ((6, (0, 102)) ∷ [])
     []
-    ((40, 1328165573065999058077) ∷ [])
+    ((40, 85002596690621680649373) ∷ [])
 
 -- after TypeText Text
 abbrev pub state_23 : Row
 state_23 = at
-    ((42, 1, 1328165573065999058077) ∷ [])
+    ((42, 1, 85002596690621680649373) ∷ [])
     []
     []
     []
-    ((42, 1328165573065999058077) ∷ [])
+    ((42, 85002596690621680649373) ∷ [])
 
 -- after TypeText Atom
 abbrev pub state_24 : Row
 state_24 = at
-    ((43, 1, 1328165573065999058077) ∷ [])
+    ((43, 1, 85002596690621680649373) ∷ [])
     []
     []
     []
-    ((43, 1328165573065999058077) ∷ [])
+    ((43, 85002596690621680649373) ∷ [])
 
 -- after TypeText TypeName
 abbrev pub state_25 : Row
 state_25 = at
-    ((45, 1, 1328165573065999058077) ∷ [])
+    ((45, 1, 85002596690621680649373) ∷ [])
     []
     []
     []
-    ((45, 1328165573065999058077) ∷ [])
+    ((45, 85002596690621680649373) ∷ [])
 
 -- after TypeFile Types
 abbrev pub state_26 : Row
 state_26 = at
-    ((3, 2, 1180591620717411303424) ∷ (7, 1, 1180591621267167117312) ∷ [])
-    ((3, begin_at 1 7 1 1180591621267167117312) ∷ (4, begin_at 2 8 0 1180591621267167182848) ∷ [])
-    ((39, (0, 29)) ∷ [])
-    ((3, 97) ∷ (4, 28) ∷ [])
-    ((3, 1180591620717411303424) ∷ [])
+    ((3, 2, 75557863725914323419136) ∷ (7, 1, 75557863728113346674688) ∷ [])
+    ((3, begin_at 1 7 1 75557863728113346674688) ∷ (4, begin_at 2 8 0 75557863728113346740224) ∷ [])
+    ((41, (0, 29)) ∷ [])
+    ((3, 103) ∷ (4, 28) ∷ [])
+    ((3, 75557863725914323419136) ∷ [])
 
 -- after TypeFile Type
 abbrev pub state_27 : Row
 state_27 = at
-    ((6, 1, 1180591621267167117312) ∷ [])
+    ((6, 1, 75557863728113346674688) ∷ [])
     []
     []
     []
-    ((6, 1180591621267167117312) ∷ [])
+    ((6, 75557863728113346674688) ∷ [])
 
 -- after TypeFile Declared
 abbrev pub state_28 : Row
 state_28 = at
-    ((8, 1, 1180591622366678745088) ∷ (9, 1, 1180591622366678745088) ∷ [])
+    ((8, 1, 75557863732511393185792) ∷ (9, 1, 75557863732511393185792) ∷ [])
     []
-    ((16, (0, 98)) ∷ [])
+    ((16, (0, 104)) ∷ [])
     []
-    ((8, 1180591622366678745088) ∷ [])
+    ((8, 75557863732511393185792) ∷ [])
 
 -- after TypeFile 'type
 abbrev pub state_29 : Row
 state_29 = at
-    ((10, 1, 1180591622366678810624) ∷ [])
+    ((10, 1, 75557863732511393251328) ∷ [])
     []
-    ((65, (0, 99)) ∷ [])
+    ((71, (0, 105)) ∷ [])
     []
     []
 
 -- after ProgramText Type
 abbrev pub state_30 : Row
 state_30 = at
-    ((291, 1, 1180591622366678745088) ∷ [])
+    ((303, 1, 75557863732511393185792) ∷ [])
     []
     []
     []
-    ((291, 1180591622366678745088) ∷ [])
+    ((303, 75557863732511393185792) ∷ [])
 
 -- after ProgramText Decls
 abbrev pub state_31 : Row
 state_31 = at
-    ((5, 2, 1180591620717411303424) ∷ (293, 1, 1180591622366678745088) ∷
-    (294, 1, 1180591622366678745088) ∷ [])
-    ((3, begin_at 1 293 1 1180591622366678745088) ∷ (4, begin_at 2 8 0 1180591622366678810624) ∷
-    (98, begin_at 1 294 1 1180591622366678745088) ∷ (99, begin_at 2 295 0 1180591622366678810624) ∷
-    [])
-    ((39, (0, 29)) ∷ (40, (1, 34)) ∷ [])
-    ((3, 100) ∷ (4, 28) ∷ (98, 101) ∷ (99, 33) ∷ [])
-    ((5, 1180591620717411303424) ∷ [])
+    ((5, 2, 75557863725914323419136) ∷ (305, 1, 75557863732511393185792) ∷
+    (306, 1, 75557863732511393185792) ∷ [])
+    ((3, begin_at 1 305 1 75557863732511393185792) ∷ (4, begin_at 2 8 0 75557863732511393251328) ∷
+    (102, begin_at 1 306 1 75557863732511393185792) ∷
+    (103, begin_at 2 307 0 75557863732511393251328) ∷ [])
+    ((41, (0, 29)) ∷ (42, (1, 34)) ∷ [])
+    ((3, 106) ∷ (4, 28) ∷ (102, 107) ∷ (103, 33) ∷ [])
+    ((5, 75557863725914323419136) ∷ [])
 
 -- after ProgramText Fun
 abbrev pub state_32 : Row
 state_32 = at
-    ((292, 1, 1180591622366678745088) ∷ [])
+    ((304, 1, 75557863732511393185792) ∷ [])
     []
     []
     []
-    ((292, 1180591622366678745088) ∷ [])
+    ((304, 75557863732511393185792) ∷ [])
 
 -- after ProgramText LetFun
 abbrev pub state_33 : Row
 state_33 = at
-    ((295, 1, 1180591622366678745088) ∷ (296, 1, 1180591622366678745088) ∷ [])
+    ((307, 1, 75557863732511393185792) ∷ (308, 1, 75557863732511393185792) ∷ [])
     []
-    ((16, (0, 102)) ∷ [])
+    ((16, (0, 108)) ∷ [])
     []
-    ((295, 1180591622366678745088) ∷ [])
+    ((307, 75557863732511393185792) ∷ [])
 
 -- after ProgramText ^let
 abbrev pub state_34 : Row
 state_34 = at
-    ((297, 1, 1180591622366678810624) ∷ [])
+    ((309, 1, 75557863732511393251328) ∷ [])
     []
-    ((41, (1, 103)) ∷ [])
+    ((43, (1, 109)) ∷ [])
     []
     []
 
 -- after TypeText Arrow 'where
 abbrev pub state_35 : Row
 state_35 = at
-    ((12, 2, 1180591622392453071872) ∷ [])
-    ((6, begin_at 1 12 2 1180596125992080442368) ∷ (7, begin_at 2 13 0 1180596125992080442368) ∷ [])
-    ((65, (0, 106)) ∷ [])
-    ((6, 104) ∷ (7, 105) ∷ [])
+    ((12, 2, 75557863733662453400576) ∷ [])
+    ((6, begin_at 1 12 2 75557881748060962882560) ∷ (7, begin_at 2 13 0 75557881748060962882560) ∷
+    [])
+    ((71, (0, 112)) ∷ [])
+    ((6, 110) ∷ (7, 111) ∷ [])
     []
 
 -- after TypeText Union ^->
 abbrev pub state_36 : Row
 state_36 = at
-    ((18, 2, 1180598377791894127616) ∷ (19, 2, 1180598377791894127616) ∷ [])
-    ((9, begin_at 1 19 2 1180598377791894127616) ∷ (10, begin_at 1 18 2 1180598377791894127744) ∷
-    (11, begin_at 2 21 0 1180598377794041611392) ∷ (12, begin_at 2 20 0 1180598377794041611392) ∷
-    (13, begin_at 3 25 0 1180598377799410320512) ∷ (14, begin_at 3 24 0 1180598377799410320512) ∷
-    (15, begin_at 4 31 0 1180598377799410320512) ∷ (17, begin_at 4 30 0 1180598377799410320512) ∷
+    ((18, 2, 75557890755260217623552) ∷ (19, 2, 75557890755260217623552) ∷ [])
+    ((9, begin_at 1 19 2 75557890755260217623552) ∷ (10, begin_at 1 18 2 75557890755260217623680) ∷
+    (11, begin_at 2 21 0 75557890755264512590976) ∷ (12, begin_at 2 20 0 75557890755264512590976) ∷
+    (13, begin_at 3 25 0 75557890755275250009216) ∷ (14, begin_at 3 24 0 75557890755275250009216) ∷
+    (15, begin_at 4 31 0 75557890755275250009216) ∷ (17, begin_at 4 30 0 75557890755275250009216) ∷
     [])
-    ((0, (0, 15)) ∷ (17, (1, 16)) ∷ (19, (1, 17)) ∷ (21, (1, 18)) ∷ (23, (1, 19)) ∷ (38, (0, 20)) ∷
-    (60, (0, 21)) ∷ (61, (0, 22)) ∷ (63, (0, 23)) ∷ (64, (0, 24)) ∷ (65, (0, 25)) ∷ [])
-    ((9, 107) ∷ (10, 108) ∷ (11, 9) ∷ (12, 10) ∷ (13, 11) ∷ (14, 12) ∷ (15, 13) ∷ (17, 14) ∷ [])
+    ((0, (0, 15)) ∷ (18, (1, 16)) ∷ (20, (1, 17)) ∷ (22, (1, 18)) ∷ (24, (1, 19)) ∷ (40, (0, 20)) ∷
+    (66, (0, 21)) ∷ (67, (0, 22)) ∷ (69, (0, 23)) ∷ (70, (0, 24)) ∷ (71, (0, 25)) ∷ [])
+    ((9, 113) ∷ (10, 114) ∷ (11, 9) ∷ (12, 10) ∷ (13, 11) ∷ (14, 12) ∷ (15, 13) ∷ (17, 14) ∷ [])
     []
 
 -- after TypeText Meets '|
 abbrev pub state_37 : Row
 state_37 = at
-    ((23, 2, 1180598377794041611392) ∷ [])
-    ((12, begin_at 1 23 2 1180598377794041611392) ∷ (13, begin_at 2 25 0 1180598377799410320512) ∷
-    (14, begin_at 2 24 0 1180598377799410320512) ∷ (15, begin_at 3 31 0 1180598377799410320512) ∷
-    (17, begin_at 3 30 0 1180598377799410320512) ∷ [])
-    ((0, (0, 15)) ∷ (17, (1, 16)) ∷ (19, (1, 17)) ∷ (21, (1, 18)) ∷ (23, (1, 19)) ∷ (38, (0, 20)) ∷
-    (60, (0, 21)) ∷ (61, (0, 22)) ∷ (63, (0, 23)) ∷ (64, (0, 24)) ∷ (65, (0, 25)) ∷ [])
-    ((12, 109) ∷ (13, 11) ∷ (14, 12) ∷ (15, 13) ∷ (17, 14) ∷ [])
+    ((23, 2, 75557890755264512590976) ∷ [])
+    ((12, begin_at 1 23 2 75557890755264512590976) ∷ (13, begin_at 2 25 0 75557890755275250009216) ∷
+    (14, begin_at 2 24 0 75557890755275250009216) ∷ (15, begin_at 3 31 0 75557890755275250009216) ∷
+    (17, begin_at 3 30 0 75557890755275250009216) ∷ [])
+    ((0, (0, 15)) ∷ (18, (1, 16)) ∷ (20, (1, 17)) ∷ (22, (1, 18)) ∷ (24, (1, 19)) ∷ (40, (0, 20)) ∷
+    (66, (0, 21)) ∷ (67, (0, 22)) ∷ (69, (0, 23)) ∷ (70, (0, 24)) ∷ (71, (0, 25)) ∷ [])
+    ((12, 115) ∷ (13, 11) ∷ (14, 12) ∷ (15, 13) ∷ (17, 14) ∷ [])
     []
 
 -- after TypeText Meet '|
 abbrev pub state_38 : Row
 state_38 = at
-    ((22, 2, 1180598377794041611392) ∷ [])
-    ((12, begin_at 1 22 2 1180598377794041611392) ∷ (13, begin_at 2 25 0 1180598377799410320512) ∷
-    (14, begin_at 2 24 0 1180598377799410320512) ∷ (15, begin_at 3 31 0 1180598377799410320512) ∷
-    (17, begin_at 3 30 0 1180598377799410320512) ∷ [])
-    ((0, (0, 15)) ∷ (17, (1, 16)) ∷ (19, (1, 17)) ∷ (21, (1, 18)) ∷ (23, (1, 19)) ∷ (38, (0, 20)) ∷
-    (60, (0, 21)) ∷ (61, (0, 22)) ∷ (63, (0, 23)) ∷ (64, (0, 24)) ∷ (65, (0, 25)) ∷ [])
-    ((12, 110) ∷ (13, 11) ∷ (14, 12) ∷ (15, 13) ∷ (17, 14) ∷ [])
+    ((22, 2, 75557890755264512590976) ∷ [])
+    ((12, begin_at 1 22 2 75557890755264512590976) ∷ (13, begin_at 2 25 0 75557890755275250009216) ∷
+    (14, begin_at 2 24 0 75557890755275250009216) ∷ (15, begin_at 3 31 0 75557890755275250009216) ∷
+    (17, begin_at 3 30 0 75557890755275250009216) ∷ [])
+    ((0, (0, 15)) ∷ (18, (1, 16)) ∷ (20, (1, 17)) ∷ (22, (1, 18)) ∷ (24, (1, 19)) ∷ (40, (0, 20)) ∷
+    (66, (0, 21)) ∷ (67, (0, 22)) ∷ (69, (0, 23)) ∷ (70, (0, 24)) ∷ (71, (0, 25)) ∷ [])
+    ((12, 116) ∷ (13, 11) ∷ (14, 12) ∷ (15, 13) ∷ (17, 14) ∷ [])
     []
 
 -- after TypeText Signs '\
 abbrev pub state_39 : Row
 state_39 = at
-    ((29, 2, 1180598377799410320512) ∷ [])
-    ((14, begin_at 1 29 2 1180598377799410320512) ∷ (15, begin_at 2 31 0 1180598377799410320512) ∷
-    (17, begin_at 2 30 0 1180598377799410320512) ∷ [])
-    ((0, (0, 15)) ∷ (17, (1, 16)) ∷ (19, (1, 17)) ∷ (21, (1, 18)) ∷ (23, (1, 19)) ∷ (38, (0, 20)) ∷
-    (60, (0, 21)) ∷ (61, (0, 22)) ∷ (63, (0, 23)) ∷ (64, (0, 24)) ∷ (65, (0, 25)) ∷ [])
-    ((14, 111) ∷ (15, 13) ∷ (17, 14) ∷ [])
+    ((29, 2, 75557890755275250009216) ∷ [])
+    ((14, begin_at 1 29 2 75557890755275250009216) ∷ (15, begin_at 2 31 0 75557890755275250009216) ∷
+    (17, begin_at 2 30 0 75557890755275250009216) ∷ [])
+    ((0, (0, 15)) ∷ (18, (1, 16)) ∷ (20, (1, 17)) ∷ (22, (1, 18)) ∷ (24, (1, 19)) ∷ (40, (0, 20)) ∷
+    (66, (0, 21)) ∷ (67, (0, 22)) ∷ (69, (0, 23)) ∷ (70, (0, 24)) ∷ (71, (0, 25)) ∷ [])
+    ((14, 117) ∷ (15, 13) ∷ (17, 14) ∷ [])
     []
 
 -- after TypeText Signs '&
 abbrev pub state_40 : Row
 state_40 = at
-    ((28, 2, 1180598377799410320512) ∷ [])
-    ((14, begin_at 1 28 2 1180598377799410320512) ∷ (15, begin_at 2 31 0 1180598377799410320512) ∷
-    (17, begin_at 2 30 0 1180598377799410320512) ∷ [])
-    ((0, (0, 15)) ∷ (17, (1, 16)) ∷ (19, (1, 17)) ∷ (21, (1, 18)) ∷ (23, (1, 19)) ∷ (38, (0, 20)) ∷
-    (60, (0, 21)) ∷ (61, (0, 22)) ∷ (63, (0, 23)) ∷ (64, (0, 24)) ∷ (65, (0, 25)) ∷ [])
-    ((14, 112) ∷ (15, 13) ∷ (17, 14) ∷ [])
+    ((28, 2, 75557890755275250009216) ∷ [])
+    ((14, begin_at 1 28 2 75557890755275250009216) ∷ (15, begin_at 2 31 0 75557890755275250009216) ∷
+    (17, begin_at 2 30 0 75557890755275250009216) ∷ [])
+    ((0, (0, 15)) ∷ (18, (1, 16)) ∷ (20, (1, 17)) ∷ (22, (1, 18)) ∷ (24, (1, 19)) ∷ (40, (0, 20)) ∷
+    (66, (0, 21)) ∷ (67, (0, 22)) ∷ (69, (0, 23)) ∷ (70, (0, 24)) ∷ (71, (0, 25)) ∷ [])
+    ((14, 118) ∷ (15, 13) ∷ (17, 14) ∷ [])
     []
 
 -- after TypeText Simple '\
 abbrev pub state_41 : Row
 state_41 = at
-    ((27, 2, 1180598377799410320512) ∷ [])
-    ((14, begin_at 1 27 2 1180598377799410320512) ∷ (15, begin_at 2 31 0 1180598377799410320512) ∷
-    (17, begin_at 2 30 0 1180598377799410320512) ∷ [])
-    ((0, (0, 15)) ∷ (17, (1, 16)) ∷ (19, (1, 17)) ∷ (21, (1, 18)) ∷ (23, (1, 19)) ∷ (38, (0, 20)) ∷
-    (60, (0, 21)) ∷ (61, (0, 22)) ∷ (63, (0, 23)) ∷ (64, (0, 24)) ∷ (65, (0, 25)) ∷ [])
-    ((14, 113) ∷ (15, 13) ∷ (17, 14) ∷ [])
+    ((27, 2, 75557890755275250009216) ∷ [])
+    ((14, begin_at 1 27 2 75557890755275250009216) ∷ (15, begin_at 2 31 0 75557890755275250009216) ∷
+    (17, begin_at 2 30 0 75557890755275250009216) ∷ [])
+    ((0, (0, 15)) ∷ (18, (1, 16)) ∷ (20, (1, 17)) ∷ (22, (1, 18)) ∷ (24, (1, 19)) ∷ (40, (0, 20)) ∷
+    (66, (0, 21)) ∷ (67, (0, 22)) ∷ (69, (0, 23)) ∷ (70, (0, 24)) ∷ (71, (0, 25)) ∷ [])
+    ((14, 119) ∷ (15, 13) ∷ (17, 14) ∷ [])
     []
 
 -- after TypeText Simple '&
 abbrev pub state_42 : Row
 state_42 = at
-    ((26, 2, 1180598377799410320512) ∷ [])
-    ((14, begin_at 1 26 2 1180598377799410320512) ∷ (15, begin_at 2 31 0 1180598377799410320512) ∷
-    (17, begin_at 2 30 0 1180598377799410320512) ∷ [])
-    ((0, (0, 15)) ∷ (17, (1, 16)) ∷ (19, (1, 17)) ∷ (21, (1, 18)) ∷ (23, (1, 19)) ∷ (38, (0, 20)) ∷
-    (60, (0, 21)) ∷ (61, (0, 22)) ∷ (63, (0, 23)) ∷ (64, (0, 24)) ∷ (65, (0, 25)) ∷ [])
-    ((14, 114) ∷ (15, 13) ∷ (17, 14) ∷ [])
+    ((26, 2, 75557890755275250009216) ∷ [])
+    ((14, begin_at 1 26 2 75557890755275250009216) ∷ (15, begin_at 2 31 0 75557890755275250009216) ∷
+    (17, begin_at 2 30 0 75557890755275250009216) ∷ [])
+    ((0, (0, 15)) ∷ (18, (1, 16)) ∷ (20, (1, 17)) ∷ (22, (1, 18)) ∷ (24, (1, 19)) ∷ (40, (0, 20)) ∷
+    (66, (0, 21)) ∷ (67, (0, 22)) ∷ (69, (0, 23)) ∷ (70, (0, 24)) ∷ (71, (0, 25)) ∷ [])
+    ((14, 120) ∷ (15, 13) ∷ (17, 14) ∷ [])
     []
 
 -- after TypeText '*-- Int
 abbrev pub state_43 : Row
 state_43 = at
-    ((39, 2, 1328165573065999058077) ∷ [])
+    ((39, 2, 85002596690621680649373) ∷ [])
     []
     []
     []
-    ((39, 1328165573065999058077) ∷ [])
+    ((39, 85002596690621680649373) ∷ [])
 
 -- after TypeText ^( Tree
 abbrev pub state_44 : Row
 state_44 = at
-    ((32, 2, 1328165573065999058077) ∷ (34, 1, 8590196736) ∷ [])
+    ((32, 2, 85002596690621680649373) ∷ (34, 1, 17180393472) ∷ [])
     []
-    ((18, (0, 115)) ∷ (33, (0, 116)) ∷ [])
+    ((19, (0, 121)) ∷ (34, (0, 122)) ∷ [])
     []
     []
 
 -- after TypeText ^( Trees
 abbrev pub state_45 : Row
 state_45 = at
-    ((33, 2, 1328165573065999058077) ∷ (35, 1, 8590196736) ∷ [])
+    ((33, 2, 85002596690621680649373) ∷ (35, 1, 17180393472) ∷ [])
     []
-    ((18, (0, 117)) ∷ (33, (0, 118)) ∷ [])
+    ((19, (0, 123)) ∷ (34, (0, 124)) ∷ [])
     []
     []
 
 -- after TypeText ^[ Bare
 abbrev pub state_46 : Row
 state_46 = at
-    ((112, 1, 72636306881511293085) ∷ [])
+    ((116, 1, 4648588514906750058653) ∷ [])
     []
     []
     []
-    ((112, 72636306881511293085) ∷ [])
+    ((116, 4648588514906750058653) ∷ [])
 
 -- after TypeText ^[ Reg
 abbrev pub state_47 : Row
 state_47 = at
-    ((49, 2, 1328165573065999058077) ∷ [])
+    ((49, 2, 85002596690621680649373) ∷ [])
     []
-    ((20, (0, 119)) ∷ [])
+    ((21, (0, 125)) ∷ [])
     []
     []
 
 -- after TypeText ^[ Alts
 abbrev pub state_48 : Row
 state_48 = at
-    ((77, 1, 1048576) ∷ (79, 1, 2148532224) ∷ [])
+    ((81, 1, 2097152) ∷ (83, 1, 4297064448) ∷ [])
     []
-    ((31, (0, 120)) ∷ [])
+    ((32, (0, 126)) ∷ [])
     []
-    ((77, 1048576) ∷ [])
+    ((81, 2097152) ∷ [])
 
 -- after TypeText ^[ RSeq
 abbrev pub state_49 : Row
 state_49 = at
-    ((76, 1, 1048576) ∷ (78, 1, 2148532224) ∷ [])
+    ((80, 1, 2097152) ∷ (82, 1, 4297064448) ∷ [])
     []
-    ((31, (0, 121)) ∷ [])
+    ((32, (0, 127)) ∷ [])
     []
-    ((76, 1048576) ∷ [])
+    ((80, 2097152) ∷ [])
 
 -- after TypeText ^[ RPosts
 abbrev pub state_50 : Row
 state_50 = at
-    ((81, 1, 2148532224) ∷ (83, 1, 72634055067268939777) ∷ [])
-    ((17, begin_at 5 112 0 72634055073107410973) ∷ (30, begin_at 1 83 1 72634055067268939777) ∷
-    (31, begin_at 2 84 0 72634055067738701853) ∷ (32, begin_at 3 87 0 72634055067738701853) ∷
-    (38, begin_at 3 86 0 72634055067738701853) ∷ (39, begin_at 4 107 0 72634055073107410973) ∷
-    (40, begin_at 4 106 0 72634055073107410973) ∷ (41, begin_at 5 114 0 72634055073107410973) ∷ [])
-    ((0, (0, 15)) ∷ (17, (1, 58)) ∷ (19, (1, 17)) ∷ (21, (1, 18)) ∷ (23, (1, 19)) ∷ (38, (0, 20)) ∷
-    (60, (0, 21)) ∷ (61, (0, 22)) ∷ (62, (0, 60)) ∷ (63, (0, 23)) ∷ (64, (0, 24)) ∷ (65, (0, 25)) ∷
+    ((85, 1, 4297064448) ∷ (87, 1, 4648579507678637981697) ∷ [])
+    ((17, begin_at 5 116 0 4648579507690314924061) ∷ (32, begin_at 1 87 1 4648579507678637981697) ∷
+    (33, begin_at 2 88 0 4648579507679577505821) ∷ (34, begin_at 3 91 0 4648579507679577505821) ∷
+    (40, begin_at 3 90 0 4648579507679577505821) ∷ (41, begin_at 4 111 0 4648579507690314924061) ∷
+    (42, begin_at 4 110 0 4648579507690314924061) ∷ (43, begin_at 5 118 0 4648579507690314924061) ∷
     [])
-    ((17, 46) ∷ (30, 122) ∷ (31, 52) ∷ (32, 53) ∷ (38, 54) ∷ (39, 55) ∷ (40, 56) ∷ (41, 57) ∷ [])
-    ((81, 2148532224) ∷ [])
+    ((0, (0, 15)) ∷ (18, (1, 58)) ∷ (20, (1, 17)) ∷ (22, (1, 18)) ∷ (24, (1, 19)) ∷ (40, (0, 20)) ∷
+    (66, (0, 21)) ∷ (67, (0, 22)) ∷ (68, (0, 60)) ∷ (69, (0, 23)) ∷ (70, (0, 24)) ∷ (71, (0, 25)) ∷
+    [])
+    ((17, 46) ∷ (32, 128) ∷ (33, 52) ∷ (34, 53) ∷ (40, 54) ∷ (41, 55) ∷ (42, 56) ∷ (43, 57) ∷ [])
+    ((85, 4297064448) ∷ [])
 
 -- after TypeText ^[ RPost
 abbrev pub state_51 : Row
 state_51 = at
-    ((80, 1, 2148532224) ∷ (82, 1, 72634055067268939777) ∷ [])
-    ((17, begin_at 5 112 0 72634055073107410973) ∷ (30, begin_at 1 82 1 72634055067268939777) ∷
-    (31, begin_at 2 84 0 72634055067738701853) ∷ (32, begin_at 3 87 0 72634055067738701853) ∷
-    (38, begin_at 3 86 0 72634055067738701853) ∷ (39, begin_at 4 107 0 72634055073107410973) ∷
-    (40, begin_at 4 106 0 72634055073107410973) ∷ (41, begin_at 5 114 0 72634055073107410973) ∷ [])
-    ((0, (0, 15)) ∷ (17, (1, 58)) ∷ (19, (1, 17)) ∷ (21, (1, 18)) ∷ (23, (1, 19)) ∷ (38, (0, 20)) ∷
-    (60, (0, 21)) ∷ (61, (0, 22)) ∷ (62, (0, 60)) ∷ (63, (0, 23)) ∷ (64, (0, 24)) ∷ (65, (0, 25)) ∷
+    ((84, 1, 4297064448) ∷ (86, 1, 4648579507678637981697) ∷ [])
+    ((17, begin_at 5 116 0 4648579507690314924061) ∷ (32, begin_at 1 86 1 4648579507678637981697) ∷
+    (33, begin_at 2 88 0 4648579507679577505821) ∷ (34, begin_at 3 91 0 4648579507679577505821) ∷
+    (40, begin_at 3 90 0 4648579507679577505821) ∷ (41, begin_at 4 111 0 4648579507690314924061) ∷
+    (42, begin_at 4 110 0 4648579507690314924061) ∷ (43, begin_at 5 118 0 4648579507690314924061) ∷
     [])
-    ((17, 46) ∷ (30, 123) ∷ (31, 52) ∷ (32, 53) ∷ (38, 54) ∷ (39, 55) ∷ (40, 56) ∷ (41, 57) ∷ [])
-    ((80, 2148532224) ∷ [])
+    ((0, (0, 15)) ∷ (18, (1, 58)) ∷ (20, (1, 17)) ∷ (22, (1, 18)) ∷ (24, (1, 19)) ∷ (40, (0, 20)) ∷
+    (66, (0, 21)) ∷ (67, (0, 22)) ∷ (68, (0, 60)) ∷ (69, (0, 23)) ∷ (70, (0, 24)) ∷ (71, (0, 25)) ∷
+    [])
+    ((17, 46) ∷ (32, 129) ∷ (33, 52) ∷ (34, 53) ∷ (40, 54) ∷ (41, 55) ∷ (42, 56) ∷ (43, 57) ∷ [])
+    ((84, 4297064448) ∷ [])
 
 -- after TypeText ^[ RItem
 abbrev pub state_52 : Row
 state_52 = at
-    ((84, 1, 72634055067269201921) ∷ (85, 1, 72634055067269201921) ∷ [])
-    ((93, begin_at 1 85 1 72634055067269201921) ∷ [])
-    ((2, (0, 125)) ∷ (3, (0, 126)) ∷ (4, (0, 127)) ∷ (26, (0, 128)) ∷ (27, (0, 129)) ∷
-    (28, (0, 130)) ∷ [])
-    ((93, 124) ∷ [])
-    ((84, 72634055067269201921) ∷ [])
+    ((88, 1, 4648579507678638505985) ∷ (89, 1, 4648579507678638505985) ∷ [])
+    ((97, begin_at 1 89 1 4648579507678638505985) ∷ [])
+    ((2, (0, 131)) ∷ (3, (0, 132)) ∷ (4, (0, 133)) ∷ (27, (0, 134)) ∷ (28, (0, 135)) ∷
+    (29, (0, 136)) ∷ [])
+    ((97, 130) ∷ [])
+    ((88, 4648579507678638505985) ∷ [])
 
 -- after TypeText ^[ Group
 abbrev pub state_53 : Row
 state_53 = at
-    ((87, 1, 72634055067738963997) ∷ [])
+    ((91, 1, 4648579507679578030109) ∷ [])
     []
     []
     []
-    ((87, 72634055067738963997) ∷ [])
+    ((91, 4648579507679578030109) ∷ [])
 
 -- after TypeText ^[ IItem
 abbrev pub state_54 : Row
 state_54 = at
-    ((86, 1, 72634055067738963997) ∷ [])
+    ((90, 1, 4648579507679578030109) ∷ [])
     []
     []
     []
-    ((86, 72634055067738963997) ∷ [])
+    ((90, 4648579507679578030109) ∷ [])
 
 -- after TypeText ^[ ISigns
 abbrev pub state_55 : Row
 state_55 = at
-    ((107, 1, 72636306876142583965) ∷ (110, 1, 72636306881511293085) ∷
-    (111, 1, 72636306881511293085) ∷ [])
+    ((111, 1, 4648588514896012640413) ∷ (114, 1, 4648588514906750058653) ∷
+    (115, 1, 4648588514906750058653) ∷ [])
     []
-    ((30, (0, 131)) ∷ (32, (0, 132)) ∷ [])
+    ((31, (0, 137)) ∷ (33, (0, 138)) ∷ [])
     []
-    ((107, 72636306876142583965) ∷ [])
+    ((111, 4648588514896012640413) ∷ [])
 
 -- after TypeText ^[ IBase
 abbrev pub state_56 : Row
 state_56 = at
-    ((106, 1, 72636306876142583965) ∷ (108, 1, 72636306881511293085) ∷
-    (109, 1, 72636306881511293085) ∷ [])
+    ((110, 1, 4648588514896012640413) ∷ (112, 1, 4648588514906750058653) ∷
+    (113, 1, 4648588514906750058653) ∷ [])
     []
-    ((30, (0, 133)) ∷ (32, (0, 134)) ∷ [])
+    ((31, (0, 139)) ∷ (33, (0, 140)) ∷ [])
     []
-    ((106, 72636306876142583965) ∷ [])
+    ((110, 4648588514896012640413) ∷ [])
 
 -- after TypeText ^[ Own
 abbrev pub state_57 : Row
 state_57 = at
-    ((114, 1, 72636306881511293085) ∷ [])
+    ((118, 1, 4648588514906750058653) ∷ [])
     []
     []
     []
-    ((114, 72636306881511293085) ∷ [])
+    ((118, 4648588514906750058653) ∷ [])
 
 -- after TypeText ^[ ^(
 abbrev pub state_58 : Row
 state_58 = at
-    ((89, 1, 72634055067738963997) ∷ (113, 1, 72636306881511293085) ∷
-    (115, 1, 72636306881511293085) ∷ (116, 1, 72636306881511293085) ∷ [])
-    ((17, begin_at 4 112 0 72636306881510244509) ∷ (32, begin_at 4 103 0 72634055067737915421) ∷
-    (33, begin_at 1 89 1 262144) ∷ (34, begin_at 2 91 0 2147745792) ∷
-    (35, begin_at 2 90 0 2147745792) ∷ (36, begin_at 3 99 0 72634055067268153345) ∷
-    (37, begin_at 3 98 0 72634055067268153345) ∷ (38, begin_at 2 127 0 72636306876141535389) ∷
-    (39, begin_at 3 107 0 72636306881510244509) ∷ (40, begin_at 3 106 0 72636306881510244509) ∷
-    (41, begin_at 4 114 0 72636306881510244509) ∷ (42, begin_at 1 115 1 8590196736) ∷
-    (43, begin_at 2 117 0 8589934592) ∷ (44, begin_at 1 116 1 8590196736) ∷
-    (45, begin_at 2 121 0 2251808403881984) ∷ (46, begin_at 3 124 0 2251808403881984) ∷
-    (47, begin_at 1 113 1 2251808403882112) ∷ (48, begin_at 2 128 0 2251810551365760) ∷ [])
-    ((0, (0, 15)) ∷ (17, (1, 58)) ∷ (19, (1, 17)) ∷ (21, (1, 18)) ∷ (23, (1, 19)) ∷ (38, (0, 20)) ∷
-    (60, (0, 21)) ∷ (61, (0, 22)) ∷ (62, (0, 60)) ∷ (63, (0, 23)) ∷ (64, (0, 24)) ∷ (65, (0, 25)) ∷
+    ((93, 1, 4648579507679578030109) ∷ (117, 1, 4648588514906750058653) ∷
+    (119, 1, 4648588514906750058653) ∷ (120, 1, 4648588514906750058653) ∷ [])
+    ((17, begin_at 4 116 0 4648588514906747961501) ∷ (34, begin_at 4 107 0 4648579507679575932957) ∷
+    (35, begin_at 1 93 1 524288) ∷ (36, begin_at 2 95 0 4295491584) ∷
+    (37, begin_at 2 94 0 4295491584) ∷ (38, begin_at 3 103 0 4648579507678636408833) ∷
+    (39, begin_at 3 102 0 4648579507678636408833) ∷ (40, begin_at 2 131 0 4648588514896010543261) ∷
+    (41, begin_at 3 111 0 4648588514906747961501) ∷ (42, begin_at 3 110 0 4648588514906747961501) ∷
+    (43, begin_at 4 118 0 4648588514906747961501) ∷ (44, begin_at 1 119 1 17180393472) ∷
+    (45, begin_at 2 121 0 17179869184) ∷ (46, begin_at 1 120 1 17180393472) ∷
+    (47, begin_at 2 125 0 9007216435134464) ∷ (48, begin_at 3 128 0 9007216435134464) ∷
+    (49, begin_at 1 117 1 9007216435134592) ∷ (50, begin_at 2 132 0 9007220730101888) ∷ [])
+    ((0, (0, 15)) ∷ (18, (1, 58)) ∷ (20, (1, 17)) ∷ (22, (1, 18)) ∷ (24, (1, 19)) ∷ (40, (0, 20)) ∷
+    (66, (0, 21)) ∷ (67, (0, 22)) ∷ (68, (0, 60)) ∷ (69, (0, 23)) ∷ (70, (0, 24)) ∷ (71, (0, 25)) ∷
     [])
-    ((17, 46) ∷ (32, 135) ∷ (33, 136) ∷ (34, 137) ∷ (35, 138) ∷ (36, 139) ∷ (37, 140) ∷ (38, 141) ∷
-    (39, 55) ∷ (40, 56) ∷ (41, 57) ∷ (42, 142) ∷ (43, 143) ∷ (44, 144) ∷ (45, 145) ∷ (46, 146) ∷
-    (47, 147) ∷ (48, 148) ∷ [])
+    ((17, 46) ∷ (34, 141) ∷ (35, 142) ∷ (36, 143) ∷ (37, 144) ∷ (38, 145) ∷ (39, 146) ∷ (40, 147) ∷
+    (41, 55) ∷ (42, 56) ∷ (43, 57) ∷ (44, 148) ∷ (45, 149) ∷ (46, 150) ∷ (47, 151) ∷ (48, 152) ∷
+    (49, 153) ∷ (50, 154) ∷ [])
     []
 
 -- after TypeText ^[ ']
 abbrev pub state_59 : Row
 state_59 = at
-    ((48, 2, 1328165573065999058077) ∷ [])
+    ((48, 2, 85002596690621680649373) ∷ [])
     []
     []
     []
-    ((48, 1328165573065999058077) ∷ [])
+    ((48, 85002596690621680649373) ∷ [])
 
 -- after TypeText ^[ CharN
 abbrev pub state_60 : Row
 state_60 = at
-    ((88, 1, 72634055067738963997) ∷ [])
+    ((92, 1, 4648579507679578030109) ∷ [])
     []
     []
     []
-    ((88, 72634055067738963997) ∷ [])
+    ((92, 4648579507679578030109) ∷ [])
 
 -- after TypeText ^{ Fields
 abbrev pub state_61 : Row
 state_61 = at
-    ((47, 2, 1328165573065999058077) ∷ [])
+    ((47, 2, 85002596690621680649373) ∷ [])
     []
-    ((22, (0, 149)) ∷ [])
+    ((23, (0, 155)) ∷ [])
     []
     []
 
--- after TypeText ^{ FieldList
+-- after TypeText ^{ Others
 abbrev pub state_62 : Row
 state_62 = at
-    ((52, 1, 4194304) ∷ (53, 1, 4194304) ∷ (55, 1, 4194304) ∷ (56, 1, 4194304) ∷
-    (58, 1, 17184064512) ∷ [])
+    ((54, 1, 8388608) ∷ [])
     []
-    ((10, (0, 150)) ∷ (34, (0, 151)) ∷ [])
     []
-    ((52, 4194304) ∷ [])
+    []
+    ((54, 8388608) ∷ [])
 
--- after TypeText ^{ Field
+-- after TypeText ^{ FieldList
 abbrev pub state_63 : Row
 state_63 = at
-    ((57, 1, 17184064512) ∷ [])
-    []
-    []
-    []
-    ((57, 17184064512) ∷ [])
+    ((52, 1, 8388608) ∷ (53, 1, 8388608) ∷ (55, 1, 8388608) ∷ (56, 1, 8388608) ∷
+    (60, 1, 1133879755776) ∷ [])
+    ((19, begin_at 1 55 1 8388608) ∷ [])
+    ((10, (0, 66)) ∷ (35, (0, 157)) ∷ (40, (0, 68)) ∷ [])
+    ((19, 156) ∷ [])
+    ((52, 8388608) ∷ [])
 
--- after TypeText ^{ Label
+-- after TypeText ^{ Field
 abbrev pub state_64 : Row
 state_64 = at
-    ((59, 1, 17184064512) ∷ (60, 1, 17184064512) ∷ [])
+    ((59, 1, 1133879755776) ∷ [])
     []
-    ((5, (0, 152)) ∷ (25, (0, 153)) ∷ [])
+    []
+    []
+    ((59, 1133879755776) ∷ [])
+
+-- after TypeText ^{ Label
+abbrev pub state_65 : Row
+state_65 = at
+    ((61, 1, 1133879755776) ∷ (62, 1, 1133879755776) ∷ [])
+    []
+    ((5, (0, 158)) ∷ (26, (0, 159)) ∷ [])
     []
     []
 
 -- after TypeText ^{ '..
-abbrev pub state_65 : Row
-state_65 = at
-    ((54, 1, 4194304) ∷ [])
-    []
-    []
-    []
-    ((54, 4194304) ∷ [])
-
--- after TypeText ^{ '}
 abbrev pub state_66 : Row
 state_66 = at
-    ((46, 2, 1328165573065999058077) ∷ [])
+    ((57, 1, 8388608) ∷ [])
     []
     []
     []
-    ((46, 1328165573065999058077) ∷ [])
+    ((57, 8388608) ∷ [])
 
--- after TypeText ^{ 'type
+-- after TypeText ^{ '}
 abbrev pub state_67 : Row
 state_67 = at
-    ((259, 1, 1328165573027847732256) ∷ [])
+    ((46, 2, 85002596690621680649373) ∷ [])
     []
     []
     []
-    ((259, 1328165573027847732256) ∷ [])
+    ((46, 85002596690621680649373) ∷ [])
 
--- after TypeText ^{ 'let
+-- after TypeText ^{ '_
 abbrev pub state_68 : Row
 state_68 = at
-    ((260, 1, 1328165573027847732256) ∷ [])
+    ((58, 1, 8388608) ∷ [])
+    []
+    ((5, (0, 160)) ∷ [])
     []
     []
-    []
-    ((260, 1328165573027847732256) ∷ [])
 
--- after TypeText ^{ 'fun
+-- after TypeText ^{ 'type
 abbrev pub state_69 : Row
 state_69 = at
-    ((261, 1, 1328165573027847732256) ∷ [])
+    ((267, 1, 85002596691644889693216) ∷ [])
     []
     []
     []
-    ((261, 1328165573027847732256) ∷ [])
+    ((267, 85002596691644889693216) ∷ [])
 
--- after TypeText ^{ 'in
+-- after TypeText ^{ 'let
 abbrev pub state_70 : Row
 state_70 = at
-    ((262, 1, 1328165573027847732256) ∷ [])
+    ((268, 1, 85002596691644889693216) ∷ [])
     []
     []
     []
-    ((262, 1328165573027847732256) ∷ [])
+    ((268, 85002596691644889693216) ∷ [])
 
--- after TypeText ^{ 'match
+-- after TypeText ^{ 'fun
 abbrev pub state_71 : Row
 state_71 = at
-    ((263, 1, 1328165573027847732256) ∷ [])
+    ((269, 1, 85002596691644889693216) ∷ [])
     []
     []
     []
-    ((263, 1328165573027847732256) ∷ [])
+    ((269, 85002596691644889693216) ∷ [])
 
--- after TypeText ^{ 'with
+-- after TypeText ^{ 'in
 abbrev pub state_72 : Row
 state_72 = at
-    ((264, 1, 1328165573027847732256) ∷ [])
+    ((270, 1, 85002596691644889693216) ∷ [])
     []
     []
     []
-    ((264, 1328165573027847732256) ∷ [])
+    ((270, 85002596691644889693216) ∷ [])
 
--- after TypeText ^{ 'if
+-- after TypeText ^{ 'match
 abbrev pub state_73 : Row
 state_73 = at
-    ((265, 1, 1328165573027847732256) ∷ [])
+    ((271, 1, 85002596691644889693216) ∷ [])
     []
     []
     []
-    ((265, 1328165573027847732256) ∷ [])
+    ((271, 85002596691644889693216) ∷ [])
 
--- after TypeText ^{ 'then
+-- after TypeText ^{ 'with
 abbrev pub state_74 : Row
 state_74 = at
-    ((266, 1, 1328165573027847732256) ∷ [])
+    ((272, 1, 85002596691644889693216) ∷ [])
     []
     []
     []
-    ((266, 1328165573027847732256) ∷ [])
+    ((272, 85002596691644889693216) ∷ [])
 
--- after TypeText ^{ 'else
+-- after TypeText ^{ 'if
 abbrev pub state_75 : Row
 state_75 = at
-    ((267, 1, 1328165573027847732256) ∷ [])
+    ((273, 1, 85002596691644889693216) ∷ [])
     []
     []
     []
-    ((267, 1328165573027847732256) ∷ [])
+    ((273, 85002596691644889693216) ∷ [])
 
--- after TypeText ^{ 'try
+-- after TypeText ^{ 'then
 abbrev pub state_76 : Row
 state_76 = at
-    ((268, 1, 1328165573027847732256) ∷ [])
+    ((274, 1, 85002596691644889693216) ∷ [])
     []
     []
     []
-    ((268, 1328165573027847732256) ∷ [])
+    ((274, 85002596691644889693216) ∷ [])
 
--- after TypeText ^{ 'map
+-- after TypeText ^{ 'else
 abbrev pub state_77 : Row
 state_77 = at
-    ((269, 1, 1328165573027847732256) ∷ [])
+    ((275, 1, 85002596691644889693216) ∷ [])
     []
     []
     []
-    ((269, 1328165573027847732256) ∷ [])
+    ((275, 85002596691644889693216) ∷ [])
 
--- after TypeText ^{ 'transform
+-- after TypeText ^{ 'try
 abbrev pub state_78 : Row
 state_78 = at
-    ((270, 1, 1328165573027847732256) ∷ [])
+    ((276, 1, 85002596691644889693216) ∷ [])
     []
     []
     []
-    ((270, 1328165573027847732256) ∷ [])
+    ((276, 85002596691644889693216) ∷ [])
 
--- after TypeText ^{ 'where
+-- after TypeText ^{ 'map
 abbrev pub state_79 : Row
 state_79 = at
-    ((271, 1, 1328165573027847732256) ∷ [])
+    ((277, 1, 85002596691644889693216) ∷ [])
     []
     []
     []
-    ((271, 1328165573027847732256) ∷ [])
+    ((277, 85002596691644889693216) ∷ [])
 
--- after TypeText ^{ 'and
+-- after TypeText ^{ 'transform
 abbrev pub state_80 : Row
 state_80 = at
-    ((272, 1, 1328165573027847732256) ∷ [])
+    ((278, 1, 85002596691644889693216) ∷ [])
     []
     []
     []
-    ((272, 1328165573027847732256) ∷ [])
+    ((278, 85002596691644889693216) ∷ [])
 
--- after TypeText ^{ 'div
+-- after TypeText ^{ 'where
 abbrev pub state_81 : Row
 state_81 = at
-    ((273, 1, 1328165573027847732256) ∷ [])
+    ((279, 1, 85002596691644889693216) ∷ [])
     []
     []
     []
-    ((273, 1328165573027847732256) ∷ [])
+    ((279, 85002596691644889693216) ∷ [])
 
--- after TypeText ^{ 'mod
+-- after TypeText ^{ 'and
 abbrev pub state_82 : Row
 state_82 = at
-    ((274, 1, 1328165573027847732256) ∷ [])
+    ((280, 1, 85002596691644889693216) ∷ [])
     []
     []
     []
-    ((274, 1328165573027847732256) ∷ [])
+    ((280, 85002596691644889693216) ∷ [])
 
--- after TypeText ^{ 'not
+-- after TypeText ^{ 'div
 abbrev pub state_83 : Row
 state_83 = at
-    ((275, 1, 1328165573027847732256) ∷ [])
+    ((281, 1, 85002596691644889693216) ∷ [])
     []
     []
     []
-    ((275, 1328165573027847732256) ∷ [])
+    ((281, 85002596691644889693216) ∷ [])
 
--- after TypeText ^{ 'flatten
+-- after TypeText ^{ 'mod
 abbrev pub state_84 : Row
 state_84 = at
-    ((276, 1, 1328165573027847732256) ∷ [])
+    ((282, 1, 85002596691644889693216) ∷ [])
     []
     []
     []
-    ((276, 1328165573027847732256) ∷ [])
+    ((282, 85002596691644889693216) ∷ [])
 
--- after TypeText ^{ 'int_of
+-- after TypeText ^{ 'not
 abbrev pub state_85 : Row
 state_85 = at
-    ((277, 1, 1328165573027847732256) ∷ [])
+    ((283, 1, 85002596691644889693216) ∷ [])
     []
     []
     []
-    ((277, 1328165573027847732256) ∷ [])
+    ((283, 85002596691644889693216) ∷ [])
 
--- after TypeText ^{ 'string_of
+-- after TypeText ^{ 'flatten
 abbrev pub state_86 : Row
 state_86 = at
-    ((278, 1, 1328165573027847732256) ∷ [])
+    ((284, 1, 85002596691644889693216) ∷ [])
     []
     []
     []
-    ((278, 1328165573027847732256) ∷ [])
+    ((284, 85002596691644889693216) ∷ [])
 
--- after TypeText ^{ 'raise
+-- after TypeText ^{ 'int_of
 abbrev pub state_87 : Row
 state_87 = at
-    ((279, 1, 1328165573027847732256) ∷ [])
+    ((285, 1, 85002596691644889693216) ∷ [])
     []
     []
     []
-    ((279, 1328165573027847732256) ∷ [])
+    ((285, 85002596691644889693216) ∷ [])
 
--- after TypeText ^{ TypeName
+-- after TypeText ^{ 'string_of
 abbrev pub state_88 : Row
 state_88 = at
-    ((257, 1, 1328165573027847732256) ∷ [])
+    ((286, 1, 85002596691644889693216) ∷ [])
     []
     []
     []
-    ((257, 1328165573027847732256) ∷ [])
+    ((286, 85002596691644889693216) ∷ [])
 
--- after TypeText ^{ Variable
+-- after TypeText ^{ 'min_of
 abbrev pub state_89 : Row
 state_89 = at
-    ((258, 1, 1328165573027847732256) ∷ [])
+    ((287, 1, 85002596691644889693216) ∷ [])
     []
     []
     []
-    ((258, 1328165573027847732256) ∷ [])
+    ((287, 85002596691644889693216) ∷ [])
 
--- after TypeText ^< Tag
+-- after TypeText ^{ 'max_of
 abbrev pub state_90 : Row
 state_90 = at
-    ((50, 2, 1328165573065999058077) ∷ (51, 2, 1328165573065999058077) ∷ [])
-    ((22, begin_at 1 51 2 16777216) ∷ (23, begin_at 2 64 0 16777216) ∷
-    (24, begin_at 3 66 0 111833385414304990208) ∷ (25, begin_at 4 71 0 111833385414304990208) ∷
-    (94, begin_at 5 74 0 33554464) ∷ [])
-    ((10, (0, 159)) ∷ (17, (1, 160)) ∷ (24, (0, 161)) ∷ (39, (0, 67)) ∷ (40, (0, 68)) ∷
-    (41, (0, 69)) ∷ (42, (0, 70)) ∷ (43, (0, 71)) ∷ (44, (0, 72)) ∷ (45, (0, 73)) ∷ (46, (0, 74)) ∷
-    (47, (0, 75)) ∷ (48, (0, 76)) ∷ (49, (0, 77)) ∷ (50, (0, 78)) ∷ (51, (0, 79)) ∷ (52, (0, 80)) ∷
-    (53, (0, 81)) ∷ (54, (0, 82)) ∷ (55, (0, 83)) ∷ (56, (0, 84)) ∷ (57, (0, 85)) ∷ (58, (0, 86)) ∷
-    (59, (0, 87)) ∷ (65, (0, 88)) ∷ (66, (0, 89)) ∷ [])
-    ((22, 154) ∷ (23, 155) ∷ (24, 156) ∷ (25, 157) ∷ (94, 158) ∷ [])
+    ((288, 1, 85002596691644889693216) ∷ [])
+    []
+    []
+    []
+    ((288, 85002596691644889693216) ∷ [])
+
+-- after TypeText ^{ 'raise
+abbrev pub state_91 : Row
+state_91 = at
+    ((289, 1, 85002596691644889693216) ∷ [])
+    []
+    []
+    []
+    ((289, 85002596691644889693216) ∷ [])
+
+-- after TypeText ^{ 'select
+abbrev pub state_92 : Row
+state_92 = at
+    ((290, 1, 85002596691644889693216) ∷ [])
+    []
+    []
+    []
+    ((290, 85002596691644889693216) ∷ [])
+
+-- after TypeText ^{ 'from
+abbrev pub state_93 : Row
+state_93 = at
+    ((291, 1, 85002596691644889693216) ∷ [])
+    []
+    []
+    []
+    ((291, 85002596691644889693216) ∷ [])
+
+-- after TypeText ^{ TypeName
+abbrev pub state_94 : Row
+state_94 = at
+    ((265, 1, 85002596691644889693216) ∷ [])
+    []
+    []
+    []
+    ((265, 85002596691644889693216) ∷ [])
+
+-- after TypeText ^{ Variable
+abbrev pub state_95 : Row
+state_95 = at
+    ((266, 1, 85002596691644889693216) ∷ [])
+    []
+    []
+    []
+    ((266, 85002596691644889693216) ∷ [])
+
+-- after TypeText ^< Tag
+abbrev pub state_96 : Row
+state_96 = at
+    ((50, 2, 85002596690621680649373) ∷ (51, 2, 85002596690621680649373) ∷ [])
+    ((23, begin_at 1 51 2 33554432) ∷ (24, begin_at 2 66 0 33554432) ∷
+    (25, begin_at 3 70 0 33554432) ∷ (26, begin_at 3 68 0 7157336699534187693056) ∷
+    (27, begin_at 4 75 0 7157336699534187693056) ∷ (98, begin_at 5 78 0 67108896) ∷ [])
+    ((10, (0, 167)) ∷ (18, (1, 168)) ∷ (25, (0, 169)) ∷ (40, (0, 170)) ∷ (41, (0, 69)) ∷
+    (42, (0, 70)) ∷ (43, (0, 71)) ∷ (44, (0, 72)) ∷ (45, (0, 73)) ∷ (46, (0, 74)) ∷ (47, (0, 75)) ∷
+    (48, (0, 76)) ∷ (49, (0, 77)) ∷ (50, (0, 78)) ∷ (51, (0, 79)) ∷ (52, (0, 80)) ∷ (53, (0, 81)) ∷
+    (54, (0, 82)) ∷ (55, (0, 83)) ∷ (56, (0, 84)) ∷ (57, (0, 85)) ∷ (58, (0, 86)) ∷ (59, (0, 87)) ∷
+    (60, (0, 88)) ∷ (61, (0, 89)) ∷ (62, (0, 90)) ∷ (63, (0, 91)) ∷ (64, (0, 92)) ∷ (65, (0, 93)) ∷
+    (71, (0, 94)) ∷ (72, (0, 95)) ∷ [])
+    ((23, 161) ∷ (24, 162) ∷ (25, 163) ∷ (26, 164) ∷ (27, 165) ∷ (98, 166) ∷ [])
     []
 
 -- after TypeText ^< Label
-abbrev pub state_91 : Row
-state_91 = at
-    ((61, 1, 111833385397125252096) ∷ [])
+abbrev pub state_97 : Row
+state_97 = at
+    ((63, 1, 7157336699499828216832) ∷ [])
     []
     []
     []
-    ((61, 111833385397125252096) ∷ [])
+    ((63, 7157336699499828216832) ∷ [])
 
 -- after TypeText ^< ^(
-abbrev pub state_92 : Row
-state_92 = at
-    ((63, 1, 111833385397125252096) ∷ [])
-    ((5, begin_at 1 63 1 262144) ∷ (8, begin_at 2 11 0 2251799813947392) ∷
-    (9, begin_at 3 17 0 2251799813947392) ∷ (10, begin_at 3 16 0 2251799813947520) ∷
-    (11, begin_at 4 21 0 2251801961431168) ∷ (12, begin_at 4 20 0 2251801961431168) ∷
-    (13, begin_at 5 25 0 2251807330140288) ∷ (14, begin_at 5 24 0 2251807330140288) ∷
-    (15, begin_at 6 31 0 2251807330140288) ∷ (17, begin_at 6 30 0 2251807330140288) ∷ [])
-    ((0, (0, 15)) ∷ (17, (1, 16)) ∷ (19, (1, 17)) ∷ (21, (1, 18)) ∷ (23, (1, 19)) ∷ (38, (0, 20)) ∷
-    (60, (0, 21)) ∷ (61, (0, 22)) ∷ (63, (0, 23)) ∷ (64, (0, 24)) ∷ (65, (0, 25)) ∷ [])
-    ((5, 162) ∷ (8, 6) ∷ (9, 7) ∷ (10, 8) ∷ (11, 9) ∷ (12, 10) ∷ (13, 11) ∷ (14, 12) ∷ (15, 13) ∷
+abbrev pub state_98 : Row
+state_98 = at
+    ((65, 1, 7157336699499828216832) ∷ [])
+    ((5, begin_at 1 65 1 524288) ∷ (8, begin_at 2 11 0 9007199255265280) ∷
+    (9, begin_at 3 17 0 9007199255265280) ∷ (10, begin_at 3 16 0 9007199255265408) ∷
+    (11, begin_at 4 21 0 9007203550232704) ∷ (12, begin_at 4 20 0 9007203550232704) ∷
+    (13, begin_at 5 25 0 9007214287650944) ∷ (14, begin_at 5 24 0 9007214287650944) ∷
+    (15, begin_at 6 31 0 9007214287650944) ∷ (17, begin_at 6 30 0 9007214287650944) ∷ [])
+    ((0, (0, 15)) ∷ (18, (1, 16)) ∷ (20, (1, 17)) ∷ (22, (1, 18)) ∷ (24, (1, 19)) ∷ (40, (0, 20)) ∷
+    (66, (0, 21)) ∷ (67, (0, 22)) ∷ (69, (0, 23)) ∷ (70, (0, 24)) ∷ (71, (0, 25)) ∷ [])
+    ((5, 171) ∷ (8, 6) ∷ (9, 7) ∷ (10, 8) ∷ (11, 9) ∷ (12, 10) ∷ (13, 11) ∷ (14, 12) ∷ (15, 13) ∷
     (17, 14) ∷ [])
     []
 
 -- after TypeText ^< '_
-abbrev pub state_93 : Row
-state_93 = at
-    ((62, 1, 111833385397125252096) ∷ [])
+abbrev pub state_99 : Row
+state_99 = at
+    ((64, 1, 7157336699499828216832) ∷ [])
     []
     []
     []
-    ((62, 111833385397125252096) ∷ [])
+    ((64, 7157336699499828216832) ∷ [])
 
 -- after TypeText Int '--*
-abbrev pub state_94 : Row
-state_94 = at
-    ((38, 2, 1328165573065999058077) ∷ [])
+abbrev pub state_100 : Row
+state_100 = at
+    ((38, 2, 85002596690621680649373) ∷ [])
     []
     []
     []
-    ((38, 1328165573065999058077) ∷ [])
+    ((38, 85002596690621680649373) ∷ [])
 
 -- after TypeText Int '--
-abbrev pub state_95 : Row
-state_95 = at
-    ((37, 2, 1328165573065999058077) ∷ [])
+abbrev pub state_101 : Row
+state_101 = at
+    ((37, 2, 85002596690621680649373) ∷ [])
     []
-    ((60, (0, 163)) ∷ [])
+    ((66, (0, 172)) ∷ [])
     []
     []
 
 -- after TypeText Char1 '--
-abbrev pub state_96 : Row
-state_96 = at
-    ((41, 2, 1328165573065999058077) ∷ [])
+abbrev pub state_102 : Row
+state_102 = at
+    ((41, 2, 85002596690621680649373) ∷ [])
     []
-    ((61, (0, 164)) ∷ [])
+    ((67, (0, 173)) ∷ [])
     []
     []
 
 -- after TypeFile Types Type
-abbrev pub state_97 : Row
-state_97 = at
-    ((7, 2, 1180591621267167117312) ∷ [])
+abbrev pub state_103 : Row
+state_103 = at
+    ((7, 2, 75557863728113346674688) ∷ [])
     []
     []
     []
-    ((7, 1180591621267167117312) ∷ [])
+    ((7, 75557863728113346674688) ∷ [])
 
 -- after TypeFile Declared ';;
-abbrev pub state_98 : Row
-state_98 = at
-    ((9, 2, 1180591622366678745088) ∷ [])
+abbrev pub state_104 : Row
+state_104 = at
+    ((9, 2, 75557863732511393185792) ∷ [])
     []
     []
     []
-    ((9, 1180591622366678745088) ∷ [])
+    ((9, 75557863732511393185792) ∷ [])
 
 -- after TypeFile 'type TypeName
-abbrev pub state_99 : Row
-state_99 = at
-    ((10, 2, 1180591622366678810624) ∷ [])
+abbrev pub state_105 : Row
+state_105 = at
+    ((10, 2, 75557863732511393251328) ∷ [])
     []
-    ((25, (0, 165)) ∷ [])
+    ((26, (0, 174)) ∷ [])
     []
     []
 
 -- after ProgramText Decls Type
-abbrev pub state_100 : Row
-state_100 = at
-    ((293, 2, 1180591622366678745088) ∷ [])
+abbrev pub state_106 : Row
+state_106 = at
+    ((305, 2, 75557863732511393185792) ∷ [])
     []
     []
     []
-    ((293, 1180591622366678745088) ∷ [])
+    ((305, 75557863732511393185792) ∷ [])
 
 -- after ProgramText Decls Fun
-abbrev pub state_101 : Row
-state_101 = at
-    ((294, 2, 1180591622366678745088) ∷ [])
+abbrev pub state_107 : Row
+state_107 = at
+    ((306, 2, 75557863732511393185792) ∷ [])
     []
     []
     []
-    ((294, 1180591622366678745088) ∷ [])
+    ((306, 75557863732511393185792) ∷ [])
 
 -- after ProgramText LetFun ';;
-abbrev pub state_102 : Row
-state_102 = at
-    ((296, 2, 1180591622366678745088) ∷ [])
+abbrev pub state_108 : Row
+state_108 = at
+    ((308, 2, 75557863732511393185792) ∷ [])
     []
     []
     []
-    ((296, 1180591622366678745088) ∷ [])
+    ((308, 75557863732511393185792) ∷ [])
 
 -- after ProgramText ^let ^fun
-abbrev pub state_103 : Row
-state_103 = at
-    ((297, 2, 1180591622366678810624) ∷ [])
+abbrev pub state_109 : Row
+state_109 = at
+    ((309, 2, 75557863732511393251328) ∷ [])
     []
-    ((66, (0, 166)) ∷ [])
+    ((72, (0, 175)) ∷ [])
     []
     []
 
 -- after TypeText Arrow 'where Names
-abbrev pub state_104 : Row
-state_104 = at
-    ((12, 3, 1180591622392453071872) ∷ (14, 1, 1180596125992080442368) ∷ [])
+abbrev pub state_110 : Row
+state_110 = at
+    ((12, 3, 75557863733662453400576) ∷ (14, 1, 75557881748060962882560) ∷ [])
     []
-    ((52, (0, 167)) ∷ [])
+    ((54, (0, 176)) ∷ [])
     []
-    ((12, 1180591622392453071872) ∷ [])
+    ((12, 75557863733662453400576) ∷ [])
 
 -- after TypeText Arrow 'where Name
-abbrev pub state_105 : Row
-state_105 = at
-    ((13, 1, 1180596125992080442368) ∷ [])
+abbrev pub state_111 : Row
+state_111 = at
+    ((13, 1, 75557881748060962882560) ∷ [])
     []
     []
     []
-    ((13, 1180596125992080442368) ∷ [])
+    ((13, 75557881748060962882560) ∷ [])
 
 -- after TypeText Arrow 'where TypeName
-abbrev pub state_106 : Row
-state_106 = at
-    ((15, 1, 1180596125992080442368) ∷ [])
+abbrev pub state_112 : Row
+state_112 = at
+    ((15, 1, 75557881748060962882560) ∷ [])
     []
-    ((25, (0, 168)) ∷ [])
+    ((26, (0, 177)) ∷ [])
     []
     []
 
 -- after TypeText Union ^-> Arrows
-abbrev pub state_107 : Row
-state_107 = at
-    ((19, 3, 1180598377791894127616) ∷ [])
+abbrev pub state_113 : Row
+state_113 = at
+    ((19, 3, 75557890755260217623552) ∷ [])
     []
     []
     []
-    ((19, 1180598377791894127616) ∷ [])
+    ((19, 75557890755260217623552) ∷ [])
 
 -- after TypeText Union ^-> Union
-abbrev pub state_108 : Row
-state_108 = at
-    ((18, 1, 1180598377791894127616) ∷ (18, 3, 1180598377791894127616) ∷
-    (19, 1, 1180598377791894127616) ∷ [])
+abbrev pub state_114 : Row
+state_114 = at
+    ((18, 1, 75557890755260217623552) ∷ (18, 3, 75557890755260217623552) ∷
+    (19, 1, 75557890755260217623552) ∷ [])
     []
     ((7, (1, 36)) ∷ [])
     []
-    ((18, 1180598377791894127616) ∷ [])
+    ((18, 75557890755260217623552) ∷ [])
 
 -- after TypeText Meets '| Meet
-abbrev pub state_109 : Row
-state_109 = at
-    ((23, 3, 1180598377794041611392) ∷ [])
-    []
-    []
-    []
-    ((23, 1180598377794041611392) ∷ [])
-
--- after TypeText Meet '| Meet
-abbrev pub state_110 : Row
-state_110 = at
-    ((22, 3, 1180598377794041611392) ∷ [])
-    []
-    []
-    []
-    ((22, 1180598377794041611392) ∷ [])
-
--- after TypeText Signs '\ Simple
-abbrev pub state_111 : Row
-state_111 = at
-    ((29, 3, 1180598377799410320512) ∷ [])
-    []
-    []
-    []
-    ((29, 1180598377799410320512) ∷ [])
-
--- after TypeText Signs '& Simple
-abbrev pub state_112 : Row
-state_112 = at
-    ((28, 3, 1180598377799410320512) ∷ [])
-    []
-    []
-    []
-    ((28, 1180598377799410320512) ∷ [])
-
--- after TypeText Simple '\ Simple
-abbrev pub state_113 : Row
-state_113 = at
-    ((27, 3, 1180598377799410320512) ∷ [])
-    []
-    []
-    []
-    ((27, 1180598377799410320512) ∷ [])
-
--- after TypeText Simple '& Simple
-abbrev pub state_114 : Row
-state_114 = at
-    ((26, 3, 1180598377799410320512) ∷ [])
-    []
-    []
-    []
-    ((26, 1180598377799410320512) ∷ [])
-
--- after TypeText ^( Tree ')
 abbrev pub state_115 : Row
 state_115 = at
-    ((32, 3, 1328165573065999058077) ∷ [])
+    ((23, 3, 75557890755264512590976) ∷ [])
     []
     []
     []
-    ((32, 1328165573065999058077) ∷ [])
+    ((23, 75557890755264512590976) ∷ [])
 
--- after TypeText ^( Tree ',
+-- after TypeText Meet '| Meet
 abbrev pub state_116 : Row
 state_116 = at
-    ((34, 2, 8590196736) ∷ [])
-    ((5, begin_at 1 34 2 8590196736) ∷ (8, begin_at 2 11 0 2251808403881984) ∷
-    (9, begin_at 3 17 0 2251808403881984) ∷ (10, begin_at 3 16 0 2251808403882112) ∷
-    (11, begin_at 4 21 0 2251810551365760) ∷ (12, begin_at 4 20 0 2251810551365760) ∷
-    (13, begin_at 5 25 0 2251815920074880) ∷ (14, begin_at 5 24 0 2251815920074880) ∷
-    (15, begin_at 6 31 0 2251815920074880) ∷ (17, begin_at 6 30 0 2251815920074880) ∷ [])
-    ((0, (0, 15)) ∷ (17, (1, 16)) ∷ (19, (1, 17)) ∷ (21, (1, 18)) ∷ (23, (1, 19)) ∷ (38, (0, 20)) ∷
-    (60, (0, 21)) ∷ (61, (0, 22)) ∷ (63, (0, 23)) ∷ (64, (0, 24)) ∷ (65, (0, 25)) ∷ [])
-    ((5, 169) ∷ (8, 6) ∷ (9, 7) ∷ (10, 8) ∷ (11, 9) ∷ (12, 10) ∷ (13, 11) ∷ (14, 12) ∷ (15, 13) ∷
+    ((22, 3, 75557890755264512590976) ∷ [])
+    []
+    []
+    []
+    ((22, 75557890755264512590976) ∷ [])
+
+-- after TypeText Signs '\ Simple
+abbrev pub state_117 : Row
+state_117 = at
+    ((29, 3, 75557890755275250009216) ∷ [])
+    []
+    []
+    []
+    ((29, 75557890755275250009216) ∷ [])
+
+-- after TypeText Signs '& Simple
+abbrev pub state_118 : Row
+state_118 = at
+    ((28, 3, 75557890755275250009216) ∷ [])
+    []
+    []
+    []
+    ((28, 75557890755275250009216) ∷ [])
+
+-- after TypeText Simple '\ Simple
+abbrev pub state_119 : Row
+state_119 = at
+    ((27, 3, 75557890755275250009216) ∷ [])
+    []
+    []
+    []
+    ((27, 75557890755275250009216) ∷ [])
+
+-- after TypeText Simple '& Simple
+abbrev pub state_120 : Row
+state_120 = at
+    ((26, 3, 75557890755275250009216) ∷ [])
+    []
+    []
+    []
+    ((26, 75557890755275250009216) ∷ [])
+
+-- after TypeText ^( Tree ')
+abbrev pub state_121 : Row
+state_121 = at
+    ((32, 3, 85002596690621680649373) ∷ [])
+    []
+    []
+    []
+    ((32, 85002596690621680649373) ∷ [])
+
+-- after TypeText ^( Tree ',
+abbrev pub state_122 : Row
+state_122 = at
+    ((34, 2, 17180393472) ∷ [])
+    ((5, begin_at 1 34 2 17180393472) ∷ (8, begin_at 2 11 0 9007216435134464) ∷
+    (9, begin_at 3 17 0 9007216435134464) ∷ (10, begin_at 3 16 0 9007216435134592) ∷
+    (11, begin_at 4 21 0 9007220730101888) ∷ (12, begin_at 4 20 0 9007220730101888) ∷
+    (13, begin_at 5 25 0 9007231467520128) ∷ (14, begin_at 5 24 0 9007231467520128) ∷
+    (15, begin_at 6 31 0 9007231467520128) ∷ (17, begin_at 6 30 0 9007231467520128) ∷ [])
+    ((0, (0, 15)) ∷ (18, (1, 16)) ∷ (20, (1, 17)) ∷ (22, (1, 18)) ∷ (24, (1, 19)) ∷ (40, (0, 20)) ∷
+    (66, (0, 21)) ∷ (67, (0, 22)) ∷ (69, (0, 23)) ∷ (70, (0, 24)) ∷ (71, (0, 25)) ∷ [])
+    ((5, 178) ∷ (8, 6) ∷ (9, 7) ∷ (10, 8) ∷ (11, 9) ∷ (12, 10) ∷ (13, 11) ∷ (14, 12) ∷ (15, 13) ∷
     (17, 14) ∷ [])
     []
 
 -- after TypeText ^( Trees ')
-abbrev pub state_117 : Row
-state_117 = at
-    ((33, 3, 1328165573065999058077) ∷ [])
+abbrev pub state_123 : Row
+state_123 = at
+    ((33, 3, 85002596690621680649373) ∷ [])
     []
     []
     []
-    ((33, 1328165573065999058077) ∷ [])
+    ((33, 85002596690621680649373) ∷ [])
 
 -- after TypeText ^( Trees ',
-abbrev pub state_118 : Row
-state_118 = at
-    ((35, 2, 8590196736) ∷ [])
-    ((5, begin_at 1 35 2 8590196736) ∷ (8, begin_at 2 11 0 2251808403881984) ∷
-    (9, begin_at 3 17 0 2251808403881984) ∷ (10, begin_at 3 16 0 2251808403882112) ∷
-    (11, begin_at 4 21 0 2251810551365760) ∷ (12, begin_at 4 20 0 2251810551365760) ∷
-    (13, begin_at 5 25 0 2251815920074880) ∷ (14, begin_at 5 24 0 2251815920074880) ∷
-    (15, begin_at 6 31 0 2251815920074880) ∷ (17, begin_at 6 30 0 2251815920074880) ∷ [])
-    ((0, (0, 15)) ∷ (17, (1, 16)) ∷ (19, (1, 17)) ∷ (21, (1, 18)) ∷ (23, (1, 19)) ∷ (38, (0, 20)) ∷
-    (60, (0, 21)) ∷ (61, (0, 22)) ∷ (63, (0, 23)) ∷ (64, (0, 24)) ∷ (65, (0, 25)) ∷ [])
-    ((5, 170) ∷ (8, 6) ∷ (9, 7) ∷ (10, 8) ∷ (11, 9) ∷ (12, 10) ∷ (13, 11) ∷ (14, 12) ∷ (15, 13) ∷
+abbrev pub state_124 : Row
+state_124 = at
+    ((35, 2, 17180393472) ∷ [])
+    ((5, begin_at 1 35 2 17180393472) ∷ (8, begin_at 2 11 0 9007216435134464) ∷
+    (9, begin_at 3 17 0 9007216435134464) ∷ (10, begin_at 3 16 0 9007216435134592) ∷
+    (11, begin_at 4 21 0 9007220730101888) ∷ (12, begin_at 4 20 0 9007220730101888) ∷
+    (13, begin_at 5 25 0 9007231467520128) ∷ (14, begin_at 5 24 0 9007231467520128) ∷
+    (15, begin_at 6 31 0 9007231467520128) ∷ (17, begin_at 6 30 0 9007231467520128) ∷ [])
+    ((0, (0, 15)) ∷ (18, (1, 16)) ∷ (20, (1, 17)) ∷ (22, (1, 18)) ∷ (24, (1, 19)) ∷ (40, (0, 20)) ∷
+    (66, (0, 21)) ∷ (67, (0, 22)) ∷ (69, (0, 23)) ∷ (70, (0, 24)) ∷ (71, (0, 25)) ∷ [])
+    ((5, 179) ∷ (8, 6) ∷ (9, 7) ∷ (10, 8) ∷ (11, 9) ∷ (12, 10) ∷ (13, 11) ∷ (14, 12) ∷ (15, 13) ∷
     (17, 14) ∷ [])
     []
 
 -- after TypeText ^[ Reg ']
-abbrev pub state_119 : Row
-state_119 = at
-    ((49, 3, 1328165573065999058077) ∷ [])
+abbrev pub state_125 : Row
+state_125 = at
+    ((49, 3, 85002596690621680649373) ∷ [])
     []
     []
     []
-    ((49, 1328165573065999058077) ∷ [])
+    ((49, 85002596690621680649373) ∷ [])
 
 -- after TypeText ^[ Alts '|
-abbrev pub state_120 : Row
-state_120 = at
-    ((79, 2, 2148532224) ∷ [])
-    ((17, begin_at 6 112 0 72634055073107410973) ∷ (28, begin_at 1 79 2 2148532224) ∷
-    (29, begin_at 2 81 0 72634055067268939777) ∷ (30, begin_at 2 80 0 72634055067268939777) ∷
-    (31, begin_at 3 84 0 72634055067738701853) ∷ (32, begin_at 4 87 0 72634055067738701853) ∷
-    (38, begin_at 4 86 0 72634055067738701853) ∷ (39, begin_at 5 107 0 72634055073107410973) ∷
-    (40, begin_at 5 106 0 72634055073107410973) ∷ (41, begin_at 6 114 0 72634055073107410973) ∷ [])
-    ((0, (0, 15)) ∷ (17, (1, 58)) ∷ (19, (1, 17)) ∷ (21, (1, 18)) ∷ (23, (1, 19)) ∷ (38, (0, 20)) ∷
-    (60, (0, 21)) ∷ (61, (0, 22)) ∷ (62, (0, 60)) ∷ (63, (0, 23)) ∷ (64, (0, 24)) ∷ (65, (0, 25)) ∷
+abbrev pub state_126 : Row
+state_126 = at
+    ((83, 2, 4297064448) ∷ [])
+    ((17, begin_at 6 116 0 4648579507690314924061) ∷ (30, begin_at 1 83 2 4297064448) ∷
+    (31, begin_at 2 85 0 4648579507678637981697) ∷ (32, begin_at 2 84 0 4648579507678637981697) ∷
+    (33, begin_at 3 88 0 4648579507679577505821) ∷ (34, begin_at 4 91 0 4648579507679577505821) ∷
+    (40, begin_at 4 90 0 4648579507679577505821) ∷ (41, begin_at 5 111 0 4648579507690314924061) ∷
+    (42, begin_at 5 110 0 4648579507690314924061) ∷ (43, begin_at 6 118 0 4648579507690314924061) ∷
     [])
-    ((17, 46) ∷ (28, 171) ∷ (29, 50) ∷ (30, 51) ∷ (31, 52) ∷ (32, 53) ∷ (38, 54) ∷ (39, 55) ∷
-    (40, 56) ∷ (41, 57) ∷ [])
+    ((0, (0, 15)) ∷ (18, (1, 58)) ∷ (20, (1, 17)) ∷ (22, (1, 18)) ∷ (24, (1, 19)) ∷ (40, (0, 20)) ∷
+    (66, (0, 21)) ∷ (67, (0, 22)) ∷ (68, (0, 60)) ∷ (69, (0, 23)) ∷ (70, (0, 24)) ∷ (71, (0, 25)) ∷
+    [])
+    ((17, 46) ∷ (30, 180) ∷ (31, 50) ∷ (32, 51) ∷ (33, 52) ∷ (34, 53) ∷ (40, 54) ∷ (41, 55) ∷
+    (42, 56) ∷ (43, 57) ∷ [])
     []
 
 -- after TypeText ^[ RSeq '|
-abbrev pub state_121 : Row
-state_121 = at
-    ((78, 2, 2148532224) ∷ [])
-    ((17, begin_at 6 112 0 72634055073107410973) ∷ (28, begin_at 1 78 2 2148532224) ∷
-    (29, begin_at 2 81 0 72634055067268939777) ∷ (30, begin_at 2 80 0 72634055067268939777) ∷
-    (31, begin_at 3 84 0 72634055067738701853) ∷ (32, begin_at 4 87 0 72634055067738701853) ∷
-    (38, begin_at 4 86 0 72634055067738701853) ∷ (39, begin_at 5 107 0 72634055073107410973) ∷
-    (40, begin_at 5 106 0 72634055073107410973) ∷ (41, begin_at 6 114 0 72634055073107410973) ∷ [])
-    ((0, (0, 15)) ∷ (17, (1, 58)) ∷ (19, (1, 17)) ∷ (21, (1, 18)) ∷ (23, (1, 19)) ∷ (38, (0, 20)) ∷
-    (60, (0, 21)) ∷ (61, (0, 22)) ∷ (62, (0, 60)) ∷ (63, (0, 23)) ∷ (64, (0, 24)) ∷ (65, (0, 25)) ∷
+abbrev pub state_127 : Row
+state_127 = at
+    ((82, 2, 4297064448) ∷ [])
+    ((17, begin_at 6 116 0 4648579507690314924061) ∷ (30, begin_at 1 82 2 4297064448) ∷
+    (31, begin_at 2 85 0 4648579507678637981697) ∷ (32, begin_at 2 84 0 4648579507678637981697) ∷
+    (33, begin_at 3 88 0 4648579507679577505821) ∷ (34, begin_at 4 91 0 4648579507679577505821) ∷
+    (40, begin_at 4 90 0 4648579507679577505821) ∷ (41, begin_at 5 111 0 4648579507690314924061) ∷
+    (42, begin_at 5 110 0 4648579507690314924061) ∷ (43, begin_at 6 118 0 4648579507690314924061) ∷
     [])
-    ((17, 46) ∷ (28, 172) ∷ (29, 50) ∷ (30, 51) ∷ (31, 52) ∷ (32, 53) ∷ (38, 54) ∷ (39, 55) ∷
-    (40, 56) ∷ (41, 57) ∷ [])
+    ((0, (0, 15)) ∷ (18, (1, 58)) ∷ (20, (1, 17)) ∷ (22, (1, 18)) ∷ (24, (1, 19)) ∷ (40, (0, 20)) ∷
+    (66, (0, 21)) ∷ (67, (0, 22)) ∷ (68, (0, 60)) ∷ (69, (0, 23)) ∷ (70, (0, 24)) ∷ (71, (0, 25)) ∷
+    [])
+    ((17, 46) ∷ (30, 181) ∷ (31, 50) ∷ (32, 51) ∷ (33, 52) ∷ (34, 53) ∷ (40, 54) ∷ (41, 55) ∷
+    (42, 56) ∷ (43, 57) ∷ [])
     []
 
 -- after TypeText ^[ RPosts RPost
-abbrev pub state_122 : Row
-state_122 = at
-    ((83, 2, 72634055067268939777) ∷ [])
-    []
-    []
-    []
-    ((83, 72634055067268939777) ∷ [])
-
--- after TypeText ^[ RPost RPost
-abbrev pub state_123 : Row
-state_123 = at
-    ((82, 2, 72634055067268939777) ∷ [])
-    []
-    []
-    []
-    ((82, 72634055067268939777) ∷ [])
-
--- after TypeText ^[ RItem Postfix
-abbrev pub state_124 : Row
-state_124 = at
-    ((85, 2, 72634055067269201921) ∷ [])
-    []
-    []
-    []
-    ((85, 72634055067269201921) ∷ [])
-
--- after TypeText ^[ RItem '*?
-abbrev pub state_125 : Row
-state_125 = at
-    ((254, 1, 146421031362107408385) ∷ [])
-    []
-    []
-    []
-    ((254, 146421031362107408385) ∷ [])
-
--- after TypeText ^[ RItem '+?
-abbrev pub state_126 : Row
-state_126 = at
-    ((255, 1, 146421031362107408385) ∷ [])
-    []
-    []
-    []
-    ((255, 146421031362107408385) ∷ [])
-
--- after TypeText ^[ RItem '??
-abbrev pub state_127 : Row
-state_127 = at
-    ((256, 1, 146421031362107408385) ∷ [])
-    []
-    []
-    []
-    ((256, 146421031362107408385) ∷ [])
-
--- after TypeText ^[ RItem '?
 abbrev pub state_128 : Row
 state_128 = at
-    ((253, 1, 146421031362107408385) ∷ [])
+    ((87, 2, 4648579507678637981697) ∷ [])
     []
     []
     []
-    ((253, 146421031362107408385) ∷ [])
+    ((87, 4648579507678637981697) ∷ [])
 
--- after TypeText ^[ RItem '*
+-- after TypeText ^[ RPost RPost
 abbrev pub state_129 : Row
 state_129 = at
-    ((251, 1, 146421031362107408385) ∷ [])
+    ((86, 2, 4648579507678637981697) ∷ [])
     []
     []
     []
-    ((251, 146421031362107408385) ∷ [])
+    ((86, 4648579507678637981697) ∷ [])
 
--- after TypeText ^[ RItem '+
+-- after TypeText ^[ RItem Postfix
 abbrev pub state_130 : Row
 state_130 = at
-    ((252, 1, 146421031362107408385) ∷ [])
+    ((89, 2, 4648579507678638505985) ∷ [])
     []
     []
     []
-    ((252, 146421031362107408385) ∷ [])
+    ((89, 4648579507678638505985) ∷ [])
 
--- after TypeText ^[ ISigns '\
+-- after TypeText ^[ RItem '*?
 abbrev pub state_131 : Row
 state_131 = at
-    ((111, 2, 72636306881511293085) ∷ [])
-    ((14, begin_at 1 111 2 72636306881511293085) ∷ (15, begin_at 2 31 0 72636306881511293085) ∷
-    (17, begin_at 2 30 0 72636306881511293085) ∷ [])
-    ((0, (0, 15)) ∷ (17, (1, 16)) ∷ (19, (1, 17)) ∷ (21, (1, 18)) ∷ (23, (1, 19)) ∷ (38, (0, 20)) ∷
-    (60, (0, 21)) ∷ (61, (0, 22)) ∷ (63, (0, 23)) ∷ (64, (0, 24)) ∷ (65, (0, 25)) ∷ [])
-    ((14, 173) ∷ (15, 13) ∷ (17, 14) ∷ [])
+    ((262, 1, 9370945990548283719681) ∷ [])
+    []
+    []
+    []
+    ((262, 9370945990548283719681) ∷ [])
+
+-- after TypeText ^[ RItem '+?
+abbrev pub state_132 : Row
+state_132 = at
+    ((263, 1, 9370945990548283719681) ∷ [])
+    []
+    []
+    []
+    ((263, 9370945990548283719681) ∷ [])
+
+-- after TypeText ^[ RItem '??
+abbrev pub state_133 : Row
+state_133 = at
+    ((264, 1, 9370945990548283719681) ∷ [])
+    []
+    []
+    []
+    ((264, 9370945990548283719681) ∷ [])
+
+-- after TypeText ^[ RItem '?
+abbrev pub state_134 : Row
+state_134 = at
+    ((261, 1, 9370945990548283719681) ∷ [])
+    []
+    []
+    []
+    ((261, 9370945990548283719681) ∷ [])
+
+-- after TypeText ^[ RItem '*
+abbrev pub state_135 : Row
+state_135 = at
+    ((259, 1, 9370945990548283719681) ∷ [])
+    []
+    []
+    []
+    ((259, 9370945990548283719681) ∷ [])
+
+-- after TypeText ^[ RItem '+
+abbrev pub state_136 : Row
+state_136 = at
+    ((260, 1, 9370945990548283719681) ∷ [])
+    []
+    []
+    []
+    ((260, 9370945990548283719681) ∷ [])
+
+-- after TypeText ^[ ISigns '\
+abbrev pub state_137 : Row
+state_137 = at
+    ((115, 2, 4648588514906750058653) ∷ [])
+    ((14, begin_at 1 115 2 4648588514906750058653) ∷ (15, begin_at 2 31 0 4648588514906750058653) ∷
+    (17, begin_at 2 30 0 4648588514906750058653) ∷ [])
+    ((0, (0, 15)) ∷ (18, (1, 16)) ∷ (20, (1, 17)) ∷ (22, (1, 18)) ∷ (24, (1, 19)) ∷ (40, (0, 20)) ∷
+    (66, (0, 21)) ∷ (67, (0, 22)) ∷ (69, (0, 23)) ∷ (70, (0, 24)) ∷ (71, (0, 25)) ∷ [])
+    ((14, 182) ∷ (15, 13) ∷ (17, 14) ∷ [])
     []
 
 -- after TypeText ^[ ISigns '&
-abbrev pub state_132 : Row
-state_132 = at
-    ((110, 2, 72636306881511293085) ∷ [])
-    ((14, begin_at 1 110 2 72636306881511293085) ∷ (15, begin_at 2 31 0 72636306881511293085) ∷
-    (17, begin_at 2 30 0 72636306881511293085) ∷ [])
-    ((0, (0, 15)) ∷ (17, (1, 16)) ∷ (19, (1, 17)) ∷ (21, (1, 18)) ∷ (23, (1, 19)) ∷ (38, (0, 20)) ∷
-    (60, (0, 21)) ∷ (61, (0, 22)) ∷ (63, (0, 23)) ∷ (64, (0, 24)) ∷ (65, (0, 25)) ∷ [])
-    ((14, 174) ∷ (15, 13) ∷ (17, 14) ∷ [])
+abbrev pub state_138 : Row
+state_138 = at
+    ((114, 2, 4648588514906750058653) ∷ [])
+    ((14, begin_at 1 114 2 4648588514906750058653) ∷ (15, begin_at 2 31 0 4648588514906750058653) ∷
+    (17, begin_at 2 30 0 4648588514906750058653) ∷ [])
+    ((0, (0, 15)) ∷ (18, (1, 16)) ∷ (20, (1, 17)) ∷ (22, (1, 18)) ∷ (24, (1, 19)) ∷ (40, (0, 20)) ∷
+    (66, (0, 21)) ∷ (67, (0, 22)) ∷ (69, (0, 23)) ∷ (70, (0, 24)) ∷ (71, (0, 25)) ∷ [])
+    ((14, 183) ∷ (15, 13) ∷ (17, 14) ∷ [])
     []
 
 -- after TypeText ^[ IBase '\
-abbrev pub state_133 : Row
-state_133 = at
-    ((109, 2, 72636306881511293085) ∷ [])
-    ((14, begin_at 1 109 2 72636306881511293085) ∷ (15, begin_at 2 31 0 72636306881511293085) ∷
-    (17, begin_at 2 30 0 72636306881511293085) ∷ [])
-    ((0, (0, 15)) ∷ (17, (1, 16)) ∷ (19, (1, 17)) ∷ (21, (1, 18)) ∷ (23, (1, 19)) ∷ (38, (0, 20)) ∷
-    (60, (0, 21)) ∷ (61, (0, 22)) ∷ (63, (0, 23)) ∷ (64, (0, 24)) ∷ (65, (0, 25)) ∷ [])
-    ((14, 175) ∷ (15, 13) ∷ (17, 14) ∷ [])
+abbrev pub state_139 : Row
+state_139 = at
+    ((113, 2, 4648588514906750058653) ∷ [])
+    ((14, begin_at 1 113 2 4648588514906750058653) ∷ (15, begin_at 2 31 0 4648588514906750058653) ∷
+    (17, begin_at 2 30 0 4648588514906750058653) ∷ [])
+    ((0, (0, 15)) ∷ (18, (1, 16)) ∷ (20, (1, 17)) ∷ (22, (1, 18)) ∷ (24, (1, 19)) ∷ (40, (0, 20)) ∷
+    (66, (0, 21)) ∷ (67, (0, 22)) ∷ (69, (0, 23)) ∷ (70, (0, 24)) ∷ (71, (0, 25)) ∷ [])
+    ((14, 184) ∷ (15, 13) ∷ (17, 14) ∷ [])
     []
 
 -- after TypeText ^[ IBase '&
-abbrev pub state_134 : Row
-state_134 = at
-    ((108, 2, 72636306881511293085) ∷ [])
-    ((14, begin_at 1 108 2 72636306881511293085) ∷ (15, begin_at 2 31 0 72636306881511293085) ∷
-    (17, begin_at 2 30 0 72636306881511293085) ∷ [])
-    ((0, (0, 15)) ∷ (17, (1, 16)) ∷ (19, (1, 17)) ∷ (21, (1, 18)) ∷ (23, (1, 19)) ∷ (38, (0, 20)) ∷
-    (60, (0, 21)) ∷ (61, (0, 22)) ∷ (63, (0, 23)) ∷ (64, (0, 24)) ∷ (65, (0, 25)) ∷ [])
-    ((14, 176) ∷ (15, 13) ∷ (17, 14) ∷ [])
+abbrev pub state_140 : Row
+state_140 = at
+    ((112, 2, 4648588514906750058653) ∷ [])
+    ((14, begin_at 1 112 2 4648588514906750058653) ∷ (15, begin_at 2 31 0 4648588514906750058653) ∷
+    (17, begin_at 2 30 0 4648588514906750058653) ∷ [])
+    ((0, (0, 15)) ∷ (18, (1, 16)) ∷ (20, (1, 17)) ∷ (22, (1, 18)) ∷ (24, (1, 19)) ∷ (40, (0, 20)) ∷
+    (66, (0, 21)) ∷ (67, (0, 22)) ∷ (69, (0, 23)) ∷ (70, (0, 24)) ∷ (71, (0, 25)) ∷ [])
+    ((14, 185) ∷ (15, 13) ∷ (17, 14) ∷ [])
     []
 
 -- after TypeText ^[ ^( Group
-abbrev pub state_135 : Row
-state_135 = at
-    ((103, 1, 72634055067268153345) ∷ (104, 1, 72634055067268153345) ∷ [])
-    ((93, begin_at 1 104 1 72634055067268153345) ∷ [])
-    ((2, (0, 125)) ∷ (3, (0, 126)) ∷ (4, (0, 127)) ∷ (26, (0, 128)) ∷ (27, (0, 129)) ∷
-    (28, (0, 130)) ∷ [])
-    ((93, 177) ∷ [])
-    ((103, 72634055067268153345) ∷ [])
+abbrev pub state_141 : Row
+state_141 = at
+    ((107, 1, 4648579507678636408833) ∷ (108, 1, 4648579507678636408833) ∷ [])
+    ((97, begin_at 1 108 1 4648579507678636408833) ∷ [])
+    ((2, (0, 131)) ∷ (3, (0, 132)) ∷ (4, (0, 133)) ∷ (27, (0, 134)) ∷ (28, (0, 135)) ∷
+    (29, (0, 136)) ∷ [])
+    ((97, 186) ∷ [])
+    ((107, 4648579507678636408833) ∷ [])
 
 -- after TypeText ^[ ^( GReg
-abbrev pub state_136 : Row
-state_136 = at
-    ((89, 2, 72634055067738963997) ∷ [])
+abbrev pub state_142 : Row
+state_142 = at
+    ((93, 2, 4648579507679578030109) ∷ [])
     []
-    ((18, (0, 178)) ∷ [])
+    ((19, (0, 187)) ∷ [])
     []
     []
 
 -- after TypeText ^[ ^( GAlts
-abbrev pub state_137 : Row
-state_137 = at
-    ((91, 1, 262144) ∷ (96, 1, 2147745792) ∷ (97, 1, 2147745792) ∷ [])
+abbrev pub state_143 : Row
+state_143 = at
+    ((95, 1, 524288) ∷ (100, 1, 4295491584) ∷ (101, 1, 4295491584) ∷ [])
     []
-    ((31, (0, 179)) ∷ [])
+    ((32, (0, 188)) ∷ [])
     []
-    ((91, 262144) ∷ [])
+    ((95, 524288) ∷ [])
 
 -- after TypeText ^[ ^( GSeq
-abbrev pub state_138 : Row
-state_138 = at
-    ((90, 1, 262144) ∷ (92, 1, 2147745792) ∷ (93, 1, 2147745792) ∷ [])
+abbrev pub state_144 : Row
+state_144 = at
+    ((94, 1, 524288) ∷ (96, 1, 4295491584) ∷ (97, 1, 4295491584) ∷ [])
     []
-    ((31, (0, 180)) ∷ [])
+    ((32, (0, 189)) ∷ [])
     []
-    ((90, 262144) ∷ [])
+    ((94, 524288) ∷ [])
 
 -- after TypeText ^[ ^( GPosts
-abbrev pub state_139 : Row
-state_139 = at
-    ((99, 1, 2147745792) ∷ (102, 1, 72634055067268153345) ∷ [])
-    ((17, begin_at 5 112 0 72634055073106624541) ∷ (30, begin_at 1 102 1 72634055067268153345) ∷
-    (31, begin_at 2 84 0 72634055067737915421) ∷ (32, begin_at 3 87 0 72634055067737915421) ∷
-    (38, begin_at 3 86 0 72634055067737915421) ∷ (39, begin_at 4 107 0 72634055073106624541) ∷
-    (40, begin_at 4 106 0 72634055073106624541) ∷ (41, begin_at 5 114 0 72634055073106624541) ∷ [])
-    ((0, (0, 15)) ∷ (17, (1, 58)) ∷ (19, (1, 17)) ∷ (21, (1, 18)) ∷ (23, (1, 19)) ∷ (38, (0, 20)) ∷
-    (60, (0, 21)) ∷ (61, (0, 22)) ∷ (62, (0, 60)) ∷ (63, (0, 23)) ∷ (64, (0, 24)) ∷ (65, (0, 25)) ∷
+abbrev pub state_145 : Row
+state_145 = at
+    ((103, 1, 4295491584) ∷ (106, 1, 4648579507678636408833) ∷ [])
+    ((17, begin_at 5 116 0 4648579507690313351197) ∷ (32, begin_at 1 106 1 4648579507678636408833) ∷
+    (33, begin_at 2 88 0 4648579507679575932957) ∷ (34, begin_at 3 91 0 4648579507679575932957) ∷
+    (40, begin_at 3 90 0 4648579507679575932957) ∷ (41, begin_at 4 111 0 4648579507690313351197) ∷
+    (42, begin_at 4 110 0 4648579507690313351197) ∷ (43, begin_at 5 118 0 4648579507690313351197) ∷
     [])
-    ((17, 46) ∷ (30, 181) ∷ (31, 52) ∷ (32, 53) ∷ (38, 54) ∷ (39, 55) ∷ (40, 56) ∷ (41, 57) ∷ [])
-    ((99, 2147745792) ∷ [])
+    ((0, (0, 15)) ∷ (18, (1, 58)) ∷ (20, (1, 17)) ∷ (22, (1, 18)) ∷ (24, (1, 19)) ∷ (40, (0, 20)) ∷
+    (66, (0, 21)) ∷ (67, (0, 22)) ∷ (68, (0, 60)) ∷ (69, (0, 23)) ∷ (70, (0, 24)) ∷ (71, (0, 25)) ∷
+    [])
+    ((17, 46) ∷ (32, 190) ∷ (33, 52) ∷ (34, 53) ∷ (40, 54) ∷ (41, 55) ∷ (42, 56) ∷ (43, 57) ∷ [])
+    ((103, 4295491584) ∷ [])
 
 -- after TypeText ^[ ^( GItem
-abbrev pub state_140 : Row
-state_140 = at
-    ((98, 1, 2147745792) ∷ (100, 1, 72634055067268153345) ∷ [])
-    ((17, begin_at 5 112 0 72634055073106624541) ∷ (30, begin_at 1 100 1 72634055067268153345) ∷
-    (31, begin_at 2 84 0 72634055067737915421) ∷ (32, begin_at 3 87 0 72634055067737915421) ∷
-    (38, begin_at 3 86 0 72634055067737915421) ∷ (39, begin_at 4 107 0 72634055073106624541) ∷
-    (40, begin_at 4 106 0 72634055073106624541) ∷ (41, begin_at 5 114 0 72634055073106624541) ∷ [])
-    ((0, (0, 15)) ∷ (17, (1, 58)) ∷ (19, (1, 17)) ∷ (21, (1, 18)) ∷ (23, (1, 19)) ∷ (38, (0, 20)) ∷
-    (60, (0, 21)) ∷ (61, (0, 22)) ∷ (62, (0, 60)) ∷ (63, (0, 23)) ∷ (64, (0, 24)) ∷ (65, (0, 25)) ∷
+abbrev pub state_146 : Row
+state_146 = at
+    ((102, 1, 4295491584) ∷ (104, 1, 4648579507678636408833) ∷ [])
+    ((17, begin_at 5 116 0 4648579507690313351197) ∷ (32, begin_at 1 104 1 4648579507678636408833) ∷
+    (33, begin_at 2 88 0 4648579507679575932957) ∷ (34, begin_at 3 91 0 4648579507679575932957) ∷
+    (40, begin_at 3 90 0 4648579507679575932957) ∷ (41, begin_at 4 111 0 4648579507690313351197) ∷
+    (42, begin_at 4 110 0 4648579507690313351197) ∷ (43, begin_at 5 118 0 4648579507690313351197) ∷
     [])
-    ((17, 46) ∷ (30, 182) ∷ (31, 52) ∷ (32, 53) ∷ (38, 54) ∷ (39, 55) ∷ (40, 56) ∷ (41, 57) ∷ [])
-    ((98, 2147745792) ∷ [])
+    ((0, (0, 15)) ∷ (18, (1, 58)) ∷ (20, (1, 17)) ∷ (22, (1, 18)) ∷ (24, (1, 19)) ∷ (40, (0, 20)) ∷
+    (66, (0, 21)) ∷ (67, (0, 22)) ∷ (68, (0, 60)) ∷ (69, (0, 23)) ∷ (70, (0, 24)) ∷ (71, (0, 25)) ∷
+    [])
+    ((17, 46) ∷ (32, 191) ∷ (33, 52) ∷ (34, 53) ∷ (40, 54) ∷ (41, 55) ∷ (42, 56) ∷ (43, 57) ∷ [])
+    ((102, 4295491584) ∷ [])
 
 -- after TypeText ^[ ^( IItem
-abbrev pub state_141 : Row
-state_141 = at
-    ((94, 1, 2147745792) ∷ (101, 1, 72634055067268153345) ∷ (105, 1, 72634055067268153345) ∷
-    (127, 1, 2251808403882112) ∷ (129, 1, 2251810551365760) ∷ [])
-    ((17, begin_at 5 112 0 72634055073106624541) ∷ (30, begin_at 1 101 1 72634055067268153345) ∷
-    (31, begin_at 2 84 0 72634055067737915421) ∷ (32, begin_at 3 87 0 72634055067737915421) ∷
-    (38, begin_at 3 86 0 72634055067737915421) ∷ (39, begin_at 4 107 0 72634055073106624541) ∷
-    (40, begin_at 4 106 0 72634055073106624541) ∷ (41, begin_at 5 114 0 72634055073106624541) ∷
-    (93, begin_at 1 105 1 72634055067268153345) ∷ [])
-    ((0, (0, 15)) ∷ (2, (0, 125)) ∷ (3, (0, 126)) ∷ (4, (0, 127)) ∷ (17, (1, 58)) ∷ (19, (1, 17)) ∷
-    (21, (1, 18)) ∷ (23, (1, 19)) ∷ (26, (0, 128)) ∷ (27, (0, 129)) ∷ (28, (0, 130)) ∷
-    (31, (0, 185)) ∷ (38, (0, 20)) ∷ (60, (0, 21)) ∷ (61, (0, 22)) ∷ (62, (0, 60)) ∷ (63, (0, 23)) ∷
-    (64, (0, 24)) ∷ (65, (0, 25)) ∷ [])
-    ((17, 46) ∷ (30, 183) ∷ (31, 52) ∷ (32, 53) ∷ (38, 54) ∷ (39, 55) ∷ (40, 56) ∷ (41, 57) ∷
-    (93, 184) ∷ [])
-    ((127, 2251808403882112) ∷ [])
+abbrev pub state_147 : Row
+state_147 = at
+    ((98, 1, 4295491584) ∷ (105, 1, 4648579507678636408833) ∷ (109, 1, 4648579507678636408833) ∷
+    (131, 1, 9007216435134592) ∷ (133, 1, 9007220730101888) ∷ [])
+    ((17, begin_at 5 116 0 4648579507690313351197) ∷ (32, begin_at 1 105 1 4648579507678636408833) ∷
+    (33, begin_at 2 88 0 4648579507679575932957) ∷ (34, begin_at 3 91 0 4648579507679575932957) ∷
+    (40, begin_at 3 90 0 4648579507679575932957) ∷ (41, begin_at 4 111 0 4648579507690313351197) ∷
+    (42, begin_at 4 110 0 4648579507690313351197) ∷ (43, begin_at 5 118 0 4648579507690313351197) ∷
+    (97, begin_at 1 109 1 4648579507678636408833) ∷ [])
+    ((0, (0, 15)) ∷ (2, (0, 131)) ∷ (3, (0, 132)) ∷ (4, (0, 133)) ∷ (18, (1, 58)) ∷ (20, (1, 17)) ∷
+    (22, (1, 18)) ∷ (24, (1, 19)) ∷ (27, (0, 134)) ∷ (28, (0, 135)) ∷ (29, (0, 136)) ∷
+    (32, (0, 194)) ∷ (40, (0, 20)) ∷ (66, (0, 21)) ∷ (67, (0, 22)) ∷ (68, (0, 60)) ∷ (69, (0, 23)) ∷
+    (70, (0, 24)) ∷ (71, (0, 25)) ∷ [])
+    ((17, 46) ∷ (32, 192) ∷ (33, 52) ∷ (34, 53) ∷ (40, 54) ∷ (41, 55) ∷ (42, 56) ∷ (43, 57) ∷
+    (97, 193) ∷ [])
+    ((131, 9007216435134592) ∷ [])
 
 -- after TypeText ^[ ^( ITrees
-abbrev pub state_142 : Row
-state_142 = at
-    ((115, 2, 72636306881511293085) ∷ (118, 1, 8590196736) ∷ [])
+abbrev pub state_148 : Row
+state_148 = at
+    ((119, 2, 4648588514906750058653) ∷ (122, 1, 17180393472) ∷ [])
     []
-    ((18, (0, 186)) ∷ (33, (0, 187)) ∷ [])
+    ((19, (0, 195)) ∷ (34, (0, 196)) ∷ [])
     []
     []
 
 -- after TypeText ^[ ^( ITree
-abbrev pub state_143 : Row
-state_143 = at
-    ((117, 1, 8590196736) ∷ [])
+abbrev pub state_149 : Row
+state_149 = at
+    ((121, 1, 17180393472) ∷ [])
     []
-    ((33, (0, 188)) ∷ [])
+    ((34, (0, 197)) ∷ [])
     []
     []
 
 -- after TypeText ^[ ^( OwnTree
-abbrev pub state_144 : Row
-state_144 = at
-    ((116, 2, 72636306881511293085) ∷ (120, 1, 8589934592) ∷ [])
-    []
-    ((18, (0, 189)) ∷ [])
-    []
-    ((120, 8589934592) ∷ [])
-
--- after TypeText ^[ ^( IArrow
-abbrev pub state_145 : Row
-state_145 = at
-    ((121, 1, 8590196736) ∷ (122, 1, 8590196736) ∷ [])
-    []
-    ((51, (0, 190)) ∷ [])
-    []
-    ((121, 8590196736) ∷ [])
-
--- after TypeText ^[ ^( IArrows
-abbrev pub state_146 : Row
-state_146 = at
-    ((124, 1, 2251808403881984) ∷ [])
-    []
-    []
-    []
-    ((124, 2251808403881984) ∷ [])
-
--- after TypeText ^[ ^( IUnion
-abbrev pub state_147 : Row
-state_147 = at
-    ((113, 2, 72636306881511293085) ∷ (119, 1, 8589934592) ∷ (123, 1, 8590196736) ∷
-    (125, 1, 2251808403881984) ∷ (126, 1, 2251808403881984) ∷ [])
-    []
-    ((7, (1, 191)) ∷ (18, (0, 192)) ∷ (51, (0, 193)) ∷ [])
-    []
-    ((119, 8589934592) ∷ [])
-
--- after TypeText ^[ ^( IAlts
-abbrev pub state_148 : Row
-state_148 = at
-    ((95, 1, 2147745792) ∷ (128, 1, 2251808403882112) ∷ (130, 1, 2251810551365760) ∷ [])
-    []
-    ((31, (0, 194)) ∷ [])
-    []
-    ((128, 2251808403882112) ∷ [])
-
--- after TypeText ^{ Fields '}
-abbrev pub state_149 : Row
-state_149 = at
-    ((47, 3, 1328165573065999058077) ∷ [])
-    []
-    []
-    []
-    ((47, 1328165573065999058077) ∷ [])
-
--- after TypeText ^{ FieldList '..
 abbrev pub state_150 : Row
 state_150 = at
-    ((55, 2, 4194304) ∷ [])
+    ((120, 2, 4648588514906750058653) ∷ (124, 1, 17179869184) ∷ [])
     []
+    ((19, (0, 198)) ∷ [])
     []
-    []
-    ((55, 4194304) ∷ [])
+    ((124, 17179869184) ∷ [])
 
--- after TypeText ^{ FieldList ';
+-- after TypeText ^[ ^( IArrow
 abbrev pub state_151 : Row
 state_151 = at
-    ((53, 2, 4194304) ∷ (56, 2, 4194304) ∷ (58, 2, 17184064512) ∷ [])
-    ((20, begin_at 1 58 2 17184064512) ∷ (94, begin_at 2 59 0 33554464) ∷ [])
-    ((10, (0, 196)) ∷ (39, (0, 67)) ∷ (40, (0, 68)) ∷ (41, (0, 69)) ∷ (42, (0, 70)) ∷
-    (43, (0, 71)) ∷ (44, (0, 72)) ∷ (45, (0, 73)) ∷ (46, (0, 74)) ∷ (47, (0, 75)) ∷ (48, (0, 76)) ∷
-    (49, (0, 77)) ∷ (50, (0, 78)) ∷ (51, (0, 79)) ∷ (52, (0, 80)) ∷ (53, (0, 81)) ∷ (54, (0, 82)) ∷
-    (55, (0, 83)) ∷ (56, (0, 84)) ∷ (57, (0, 85)) ∷ (58, (0, 86)) ∷ (59, (0, 87)) ∷ (65, (0, 88)) ∷
-    (66, (0, 89)) ∷ [])
-    ((20, 195) ∷ (94, 64) ∷ [])
-    ((53, 4194304) ∷ [])
+    ((125, 1, 17180393472) ∷ (126, 1, 17180393472) ∷ [])
+    []
+    ((53, (0, 199)) ∷ [])
+    []
+    ((125, 17180393472) ∷ [])
 
--- after TypeText ^{ Label '=?
+-- after TypeText ^[ ^( IArrows
 abbrev pub state_152 : Row
 state_152 = at
-    ((60, 2, 17184064512) ∷ [])
-    ((5, begin_at 1 60 2 17184064512) ∷ (8, begin_at 2 11 0 2251816997749760) ∷
-    (9, begin_at 3 17 0 2251816997749760) ∷ (10, begin_at 3 16 0 2251816997749888) ∷
-    (11, begin_at 4 21 0 2251819145233536) ∷ (12, begin_at 4 20 0 2251819145233536) ∷
-    (13, begin_at 5 25 0 2251824513942656) ∷ (14, begin_at 5 24 0 2251824513942656) ∷
-    (15, begin_at 6 31 0 2251824513942656) ∷ (17, begin_at 6 30 0 2251824513942656) ∷ [])
-    ((0, (0, 15)) ∷ (17, (1, 16)) ∷ (19, (1, 17)) ∷ (21, (1, 18)) ∷ (23, (1, 19)) ∷ (38, (0, 20)) ∷
-    (60, (0, 21)) ∷ (61, (0, 22)) ∷ (63, (0, 23)) ∷ (64, (0, 24)) ∷ (65, (0, 25)) ∷ [])
-    ((5, 197) ∷ (8, 6) ∷ (9, 7) ∷ (10, 8) ∷ (11, 9) ∷ (12, 10) ∷ (13, 11) ∷ (14, 12) ∷ (15, 13) ∷
+    ((128, 1, 9007216435134464) ∷ [])
+    []
+    []
+    []
+    ((128, 9007216435134464) ∷ [])
+
+-- after TypeText ^[ ^( IUnion
+abbrev pub state_153 : Row
+state_153 = at
+    ((117, 2, 4648588514906750058653) ∷ (123, 1, 17179869184) ∷ (127, 1, 17180393472) ∷
+    (129, 1, 9007216435134464) ∷ (130, 1, 9007216435134464) ∷ [])
+    []
+    ((7, (1, 200)) ∷ (19, (0, 201)) ∷ (53, (0, 202)) ∷ [])
+    []
+    ((123, 17179869184) ∷ [])
+
+-- after TypeText ^[ ^( IAlts
+abbrev pub state_154 : Row
+state_154 = at
+    ((99, 1, 4295491584) ∷ (132, 1, 9007216435134592) ∷ (134, 1, 9007220730101888) ∷ [])
+    []
+    ((32, (0, 203)) ∷ [])
+    []
+    ((132, 9007216435134592) ∷ [])
+
+-- after TypeText ^{ Fields '}
+abbrev pub state_155 : Row
+state_155 = at
+    ((47, 3, 85002596690621680649373) ∷ [])
+    []
+    []
+    []
+    ((47, 85002596690621680649373) ∷ [])
+
+-- after TypeText ^{ FieldList Others
+abbrev pub state_156 : Row
+state_156 = at
+    ((55, 2, 8388608) ∷ [])
+    []
+    []
+    []
+    ((55, 8388608) ∷ [])
+
+-- after TypeText ^{ FieldList ';
+abbrev pub state_157 : Row
+state_157 = at
+    ((53, 2, 8388608) ∷ (56, 2, 8388608) ∷ (60, 2, 1133879755776) ∷ [])
+    ((19, begin_at 1 56 2 8388608) ∷ (21, begin_at 1 60 2 1133879755776) ∷
+    (98, begin_at 2 61 0 67108896) ∷ [])
+    ((10, (0, 66)) ∷ (40, (0, 68)) ∷ (41, (0, 69)) ∷ (42, (0, 70)) ∷ (43, (0, 71)) ∷ (44, (0, 72)) ∷
+    (45, (0, 73)) ∷ (46, (0, 74)) ∷ (47, (0, 75)) ∷ (48, (0, 76)) ∷ (49, (0, 77)) ∷ (50, (0, 78)) ∷
+    (51, (0, 79)) ∷ (52, (0, 80)) ∷ (53, (0, 81)) ∷ (54, (0, 82)) ∷ (55, (0, 83)) ∷ (56, (0, 84)) ∷
+    (57, (0, 85)) ∷ (58, (0, 86)) ∷ (59, (0, 87)) ∷ (60, (0, 88)) ∷ (61, (0, 89)) ∷ (62, (0, 90)) ∷
+    (63, (0, 91)) ∷ (64, (0, 92)) ∷ (65, (0, 93)) ∷ (71, (0, 94)) ∷ (72, (0, 95)) ∷ [])
+    ((19, 204) ∷ (21, 205) ∷ (98, 65) ∷ [])
+    ((53, 8388608) ∷ [])
+
+-- after TypeText ^{ Label '=?
+abbrev pub state_158 : Row
+state_158 = at
+    ((62, 2, 1133879755776) ∷ [])
+    ((5, begin_at 1 62 2 1133879755776) ∷ (8, begin_at 2 11 0 9008333134496768) ∷
+    (9, begin_at 3 17 0 9008333134496768) ∷ (10, begin_at 3 16 0 9008333134496896) ∷
+    (11, begin_at 4 21 0 9008337429464192) ∷ (12, begin_at 4 20 0 9008337429464192) ∷
+    (13, begin_at 5 25 0 9008348166882432) ∷ (14, begin_at 5 24 0 9008348166882432) ∷
+    (15, begin_at 6 31 0 9008348166882432) ∷ (17, begin_at 6 30 0 9008348166882432) ∷ [])
+    ((0, (0, 15)) ∷ (18, (1, 16)) ∷ (20, (1, 17)) ∷ (22, (1, 18)) ∷ (24, (1, 19)) ∷ (40, (0, 20)) ∷
+    (66, (0, 21)) ∷ (67, (0, 22)) ∷ (69, (0, 23)) ∷ (70, (0, 24)) ∷ (71, (0, 25)) ∷ [])
+    ((5, 206) ∷ (8, 6) ∷ (9, 7) ∷ (10, 8) ∷ (11, 9) ∷ (12, 10) ∷ (13, 11) ∷ (14, 12) ∷ (15, 13) ∷
     (17, 14) ∷ [])
     []
 
 -- after TypeText ^{ Label '=
-abbrev pub state_153 : Row
-state_153 = at
-    ((59, 2, 17184064512) ∷ [])
-    ((5, begin_at 1 59 2 17184064512) ∷ (8, begin_at 2 11 0 2251816997749760) ∷
-    (9, begin_at 3 17 0 2251816997749760) ∷ (10, begin_at 3 16 0 2251816997749888) ∷
-    (11, begin_at 4 21 0 2251819145233536) ∷ (12, begin_at 4 20 0 2251819145233536) ∷
-    (13, begin_at 5 25 0 2251824513942656) ∷ (14, begin_at 5 24 0 2251824513942656) ∷
-    (15, begin_at 6 31 0 2251824513942656) ∷ (17, begin_at 6 30 0 2251824513942656) ∷ [])
-    ((0, (0, 15)) ∷ (17, (1, 16)) ∷ (19, (1, 17)) ∷ (21, (1, 18)) ∷ (23, (1, 19)) ∷ (38, (0, 20)) ∷
-    (60, (0, 21)) ∷ (61, (0, 22)) ∷ (63, (0, 23)) ∷ (64, (0, 24)) ∷ (65, (0, 25)) ∷ [])
-    ((5, 198) ∷ (8, 6) ∷ (9, 7) ∷ (10, 8) ∷ (11, 9) ∷ (12, 10) ∷ (13, 11) ∷ (14, 12) ∷ (15, 13) ∷
-    (17, 14) ∷ [])
-    []
-
--- after TypeText ^< Tag Attrs
-abbrev pub state_154 : Row
-state_154 = at
-    ((51, 3, 1328165573065999058077) ∷ [])
-    []
-    ((24, (0, 199)) ∷ [])
-    []
-    []
-
--- after TypeText ^< Tag AttrFields
-abbrev pub state_155 : Row
-state_155 = at
-    ((64, 1, 16777216) ∷ [])
-    []
-    []
-    []
-    ((64, 16777216) ∷ [])
-
--- after TypeText ^< Tag AttrList
-abbrev pub state_156 : Row
-state_156 = at
-    ((66, 1, 16777216) ∷ (67, 1, 16777216) ∷ (69, 1, 16777216) ∷ (70, 1, 16777216) ∷
-    (72, 1, 111833385414304990208) ∷ (73, 1, 111833385414304990208) ∷ [])
-    ((25, begin_at 1 72 1 111833385414304990208) ∷ (94, begin_at 2 74 0 33554464) ∷ [])
-    ((10, (0, 201)) ∷ (34, (0, 202)) ∷ (39, (0, 67)) ∷ (40, (0, 68)) ∷ (41, (0, 69)) ∷
-    (42, (0, 70)) ∷ (43, (0, 71)) ∷ (44, (0, 72)) ∷ (45, (0, 73)) ∷ (46, (0, 74)) ∷ (47, (0, 75)) ∷
-    (48, (0, 76)) ∷ (49, (0, 77)) ∷ (50, (0, 78)) ∷ (51, (0, 79)) ∷ (52, (0, 80)) ∷ (53, (0, 81)) ∷
-    (54, (0, 82)) ∷ (55, (0, 83)) ∷ (56, (0, 84)) ∷ (57, (0, 85)) ∷ (58, (0, 86)) ∷ (59, (0, 87)) ∷
-    (65, (0, 88)) ∷ (66, (0, 89)) ∷ [])
-    ((25, 200) ∷ (94, 158) ∷ [])
-    ((66, 16777216) ∷ [])
-
--- after TypeText ^< Tag Attr
-abbrev pub state_157 : Row
-state_157 = at
-    ((71, 1, 111833385414304990208) ∷ [])
-    []
-    []
-    []
-    ((71, 111833385414304990208) ∷ [])
-
--- after TypeText ^< Tag Label
-abbrev pub state_158 : Row
-state_158 = at
-    ((74, 1, 111833385414304990208) ∷ (75, 1, 111833385414304990208) ∷ [])
-    []
-    ((5, (0, 203)) ∷ (25, (0, 204)) ∷ [])
-    []
-    []
-
--- after TypeText ^< Tag '..
 abbrev pub state_159 : Row
 state_159 = at
-    ((68, 1, 16777216) ∷ [])
-    []
-    []
-    []
-    ((68, 16777216) ∷ [])
-
--- after TypeText ^< Tag ^(
-abbrev pub state_160 : Row
-state_160 = at
-    ((65, 1, 16777216) ∷ [])
-    ((5, begin_at 1 65 1 262144) ∷ (8, begin_at 2 11 0 2251799813947392) ∷
-    (9, begin_at 3 17 0 2251799813947392) ∷ (10, begin_at 3 16 0 2251799813947520) ∷
-    (11, begin_at 4 21 0 2251801961431168) ∷ (12, begin_at 4 20 0 2251801961431168) ∷
-    (13, begin_at 5 25 0 2251807330140288) ∷ (14, begin_at 5 24 0 2251807330140288) ∷
-    (15, begin_at 6 31 0 2251807330140288) ∷ (17, begin_at 6 30 0 2251807330140288) ∷ [])
-    ((0, (0, 15)) ∷ (17, (1, 16)) ∷ (19, (1, 17)) ∷ (21, (1, 18)) ∷ (23, (1, 19)) ∷ (38, (0, 20)) ∷
-    (60, (0, 21)) ∷ (61, (0, 22)) ∷ (63, (0, 23)) ∷ (64, (0, 24)) ∷ (65, (0, 25)) ∷ [])
-    ((5, 205) ∷ (8, 6) ∷ (9, 7) ∷ (10, 8) ∷ (11, 9) ∷ (12, 10) ∷ (13, 11) ∷ (14, 12) ∷ (15, 13) ∷
+    ((61, 2, 1133879755776) ∷ [])
+    ((5, begin_at 1 61 2 1133879755776) ∷ (8, begin_at 2 11 0 9008333134496768) ∷
+    (9, begin_at 3 17 0 9008333134496768) ∷ (10, begin_at 3 16 0 9008333134496896) ∷
+    (11, begin_at 4 21 0 9008337429464192) ∷ (12, begin_at 4 20 0 9008337429464192) ∷
+    (13, begin_at 5 25 0 9008348166882432) ∷ (14, begin_at 5 24 0 9008348166882432) ∷
+    (15, begin_at 6 31 0 9008348166882432) ∷ (17, begin_at 6 30 0 9008348166882432) ∷ [])
+    ((0, (0, 15)) ∷ (18, (1, 16)) ∷ (20, (1, 17)) ∷ (22, (1, 18)) ∷ (24, (1, 19)) ∷ (40, (0, 20)) ∷
+    (66, (0, 21)) ∷ (67, (0, 22)) ∷ (69, (0, 23)) ∷ (70, (0, 24)) ∷ (71, (0, 25)) ∷ [])
+    ((5, 207) ∷ (8, 6) ∷ (9, 7) ∷ (10, 8) ∷ (11, 9) ∷ (12, 10) ∷ (13, 11) ∷ (14, 12) ∷ (15, 13) ∷
     (17, 14) ∷ [])
     []
 
--- after TypeText ^< Tag '>
-abbrev pub state_161 : Row
-state_161 = at
-    ((50, 3, 1328165573065999058077) ∷ [])
-    ((14, begin_at 1 50 3 1328165573065999058077) ∷ (15, begin_at 2 31 0 1328165573065999058077) ∷
-    (17, begin_at 2 30 0 1328165573065999058077) ∷ [])
-    ((0, (0, 15)) ∷ (17, (1, 16)) ∷ (19, (1, 17)) ∷ (21, (1, 18)) ∷ (23, (1, 19)) ∷ (38, (0, 20)) ∷
-    (60, (0, 21)) ∷ (61, (0, 22)) ∷ (63, (0, 23)) ∷ (64, (0, 24)) ∷ (65, (0, 25)) ∷ [])
-    ((14, 206) ∷ (15, 13) ∷ (17, 14) ∷ [])
-    []
-
--- after TypeText ^< ^( Tree
-abbrev pub state_162 : Row
-state_162 = at
-    ((63, 2, 111833385397125252096) ∷ [])
-    []
-    ((18, (0, 207)) ∷ [])
-    []
-    []
-
--- after TypeText Int '-- Int
-abbrev pub state_163 : Row
-state_163 = at
-    ((37, 3, 1328165573065999058077) ∷ [])
-    []
-    []
-    []
-    ((37, 1328165573065999058077) ∷ [])
-
--- after TypeText Char1 '-- Char1
-abbrev pub state_164 : Row
-state_164 = at
-    ((41, 3, 1328165573065999058077) ∷ [])
-    []
-    []
-    []
-    ((41, 1328165573065999058077) ∷ [])
-
--- after TypeFile 'type TypeName '=
-abbrev pub state_165 : Row
-state_165 = at
-    ((10, 3, 1180591622366678810624) ∷ [])
-    ((5, begin_at 1 10 3 1180591622366678810624) ∷ (8, begin_at 2 11 0 1180593874166492495872) ∷
-    (9, begin_at 3 17 0 1180593874166492495872) ∷ (10, begin_at 3 16 0 1180593874166492496000) ∷
-    (11, begin_at 4 21 0 1180593874168639979648) ∷ (12, begin_at 4 20 0 1180593874168639979648) ∷
-    (13, begin_at 5 25 0 1180593874174008688768) ∷ (14, begin_at 5 24 0 1180593874174008688768) ∷
-    (15, begin_at 6 31 0 1180593874174008688768) ∷ (17, begin_at 6 30 0 1180593874174008688768) ∷
-    [])
-    ((0, (0, 15)) ∷ (17, (1, 16)) ∷ (19, (1, 17)) ∷ (21, (1, 18)) ∷ (23, (1, 19)) ∷ (38, (0, 20)) ∷
-    (60, (0, 21)) ∷ (61, (0, 22)) ∷ (63, (0, 23)) ∷ (64, (0, 24)) ∷ (65, (0, 25)) ∷ [])
+-- after TypeText ^{ '_ '=?
+abbrev pub state_160 : Row
+state_160 = at
+    ((58, 2, 8388608) ∷ [])
+    ((5, begin_at 1 58 2 8388608) ∷ (8, begin_at 2 11 0 9007199263129600) ∷
+    (9, begin_at 3 17 0 9007199263129600) ∷ (10, begin_at 3 16 0 9007199263129728) ∷
+    (11, begin_at 4 21 0 9007203558097024) ∷ (12, begin_at 4 20 0 9007203558097024) ∷
+    (13, begin_at 5 25 0 9007214295515264) ∷ (14, begin_at 5 24 0 9007214295515264) ∷
+    (15, begin_at 6 31 0 9007214295515264) ∷ (17, begin_at 6 30 0 9007214295515264) ∷ [])
+    ((0, (0, 15)) ∷ (18, (1, 16)) ∷ (20, (1, 17)) ∷ (22, (1, 18)) ∷ (24, (1, 19)) ∷ (40, (0, 20)) ∷
+    (66, (0, 21)) ∷ (67, (0, 22)) ∷ (69, (0, 23)) ∷ (70, (0, 24)) ∷ (71, (0, 25)) ∷ [])
     ((5, 208) ∷ (8, 6) ∷ (9, 7) ∷ (10, 8) ∷ (11, 9) ∷ (12, 10) ∷ (13, 11) ∷ (14, 12) ∷ (15, 13) ∷
     (17, 14) ∷ [])
     []
 
--- after ProgramText ^let ^fun Variable
+-- after TypeText ^< Tag Attrs
+abbrev pub state_161 : Row
+state_161 = at
+    ((51, 3, 85002596690621680649373) ∷ [])
+    []
+    ((25, (0, 209)) ∷ [])
+    []
+    []
+
+-- after TypeText ^< Tag AttrFields
+abbrev pub state_162 : Row
+state_162 = at
+    ((66, 1, 33554432) ∷ [])
+    []
+    []
+    []
+    ((66, 33554432) ∷ [])
+
+-- after TypeText ^< Tag AttrOthers
+abbrev pub state_163 : Row
+state_163 = at
+    ((70, 1, 33554432) ∷ [])
+    []
+    []
+    []
+    ((70, 33554432) ∷ [])
+
+-- after TypeText ^< Tag AttrList
+abbrev pub state_164 : Row
+state_164 = at
+    ((68, 1, 33554432) ∷ (69, 1, 33554432) ∷ (71, 1, 33554432) ∷ (72, 1, 33554432) ∷
+    (76, 1, 7157336699534187693056) ∷ (77, 1, 7157336699534187693056) ∷ [])
+    ((25, begin_at 1 71 1 33554432) ∷ (27, begin_at 1 76 1 7157336699534187693056) ∷
+    (98, begin_at 2 78 0 67108896) ∷ [])
+    ((10, (0, 167)) ∷ (35, (0, 212)) ∷ (40, (0, 170)) ∷ (41, (0, 69)) ∷ (42, (0, 70)) ∷
+    (43, (0, 71)) ∷ (44, (0, 72)) ∷ (45, (0, 73)) ∷ (46, (0, 74)) ∷ (47, (0, 75)) ∷ (48, (0, 76)) ∷
+    (49, (0, 77)) ∷ (50, (0, 78)) ∷ (51, (0, 79)) ∷ (52, (0, 80)) ∷ (53, (0, 81)) ∷ (54, (0, 82)) ∷
+    (55, (0, 83)) ∷ (56, (0, 84)) ∷ (57, (0, 85)) ∷ (58, (0, 86)) ∷ (59, (0, 87)) ∷ (60, (0, 88)) ∷
+    (61, (0, 89)) ∷ (62, (0, 90)) ∷ (63, (0, 91)) ∷ (64, (0, 92)) ∷ (65, (0, 93)) ∷ (71, (0, 94)) ∷
+    (72, (0, 95)) ∷ [])
+    ((25, 210) ∷ (27, 211) ∷ (98, 166) ∷ [])
+    ((68, 33554432) ∷ [])
+
+-- after TypeText ^< Tag Attr
+abbrev pub state_165 : Row
+state_165 = at
+    ((75, 1, 7157336699534187693056) ∷ [])
+    []
+    []
+    []
+    ((75, 7157336699534187693056) ∷ [])
+
+-- after TypeText ^< Tag Label
 abbrev pub state_166 : Row
 state_166 = at
-    ((297, 3, 1180591622366678810624) ∷ [])
-    ((100, begin_at 1 297 3 141809345343678709761) ∷ [])
-    ((17, (1, 210)) ∷ [])
-    ((100, 209) ∷ [])
+    ((78, 1, 7157336699534187693056) ∷ (79, 1, 7157336699534187693056) ∷ [])
+    []
+    ((5, (0, 213)) ∷ (26, (0, 214)) ∷ [])
+    []
     []
 
--- after TypeText Arrow 'where Names 'and
+-- after TypeText ^< Tag '..
 abbrev pub state_167 : Row
 state_167 = at
-    ((14, 2, 1180596125992080442368) ∷ [])
-    ((7, begin_at 1 14 2 1180596125992080442368) ∷ [])
-    ((65, (0, 106)) ∷ [])
-    ((7, 211) ∷ [])
+    ((73, 1, 33554432) ∷ [])
     []
+    []
+    []
+    ((73, 33554432) ∷ [])
 
--- after TypeText Arrow 'where TypeName '=
+-- after TypeText ^< Tag ^(
 abbrev pub state_168 : Row
 state_168 = at
-    ((15, 2, 1180596125992080442368) ∷ [])
-    ((8, begin_at 1 15 2 1180596125992080442368) ∷ (9, begin_at 2 17 0 1180596125992080442368) ∷
-    (10, begin_at 2 16 0 1180596125992080442496) ∷ (11, begin_at 3 21 0 1180596125994227926144) ∷
-    (12, begin_at 3 20 0 1180596125994227926144) ∷ (13, begin_at 4 25 0 1180596125999596635264) ∷
-    (14, begin_at 4 24 0 1180596125999596635264) ∷ (15, begin_at 5 31 0 1180596125999596635264) ∷
-    (17, begin_at 5 30 0 1180596125999596635264) ∷ [])
-    ((0, (0, 15)) ∷ (17, (1, 16)) ∷ (19, (1, 17)) ∷ (21, (1, 18)) ∷ (23, (1, 19)) ∷ (38, (0, 20)) ∷
-    (60, (0, 21)) ∷ (61, (0, 22)) ∷ (63, (0, 23)) ∷ (64, (0, 24)) ∷ (65, (0, 25)) ∷ [])
-    ((8, 212) ∷ (9, 7) ∷ (10, 8) ∷ (11, 9) ∷ (12, 10) ∷ (13, 11) ∷ (14, 12) ∷ (15, 13) ∷ (17, 14) ∷
-    [])
+    ((67, 1, 33554432) ∷ [])
+    ((5, begin_at 1 67 1 524288) ∷ (8, begin_at 2 11 0 9007199255265280) ∷
+    (9, begin_at 3 17 0 9007199255265280) ∷ (10, begin_at 3 16 0 9007199255265408) ∷
+    (11, begin_at 4 21 0 9007203550232704) ∷ (12, begin_at 4 20 0 9007203550232704) ∷
+    (13, begin_at 5 25 0 9007214287650944) ∷ (14, begin_at 5 24 0 9007214287650944) ∷
+    (15, begin_at 6 31 0 9007214287650944) ∷ (17, begin_at 6 30 0 9007214287650944) ∷ [])
+    ((0, (0, 15)) ∷ (18, (1, 16)) ∷ (20, (1, 17)) ∷ (22, (1, 18)) ∷ (24, (1, 19)) ∷ (40, (0, 20)) ∷
+    (66, (0, 21)) ∷ (67, (0, 22)) ∷ (69, (0, 23)) ∷ (70, (0, 24)) ∷ (71, (0, 25)) ∷ [])
+    ((5, 215) ∷ (8, 6) ∷ (9, 7) ∷ (10, 8) ∷ (11, 9) ∷ (12, 10) ∷ (13, 11) ∷ (14, 12) ∷ (15, 13) ∷
+    (17, 14) ∷ [])
     []
 
--- after TypeText ^( Tree ', Tree
+-- after TypeText ^< Tag '>
 abbrev pub state_169 : Row
 state_169 = at
-    ((34, 3, 8590196736) ∷ [])
+    ((50, 3, 85002596690621680649373) ∷ [])
+    ((14, begin_at 1 50 3 85002596690621680649373) ∷ (15, begin_at 2 31 0 85002596690621680649373) ∷
+    (17, begin_at 2 30 0 85002596690621680649373) ∷ [])
+    ((0, (0, 15)) ∷ (18, (1, 16)) ∷ (20, (1, 17)) ∷ (22, (1, 18)) ∷ (24, (1, 19)) ∷ (40, (0, 20)) ∷
+    (66, (0, 21)) ∷ (67, (0, 22)) ∷ (69, (0, 23)) ∷ (70, (0, 24)) ∷ (71, (0, 25)) ∷ [])
+    ((14, 216) ∷ (15, 13) ∷ (17, 14) ∷ [])
     []
-    []
-    []
-    ((34, 8590196736) ∷ [])
 
--- after TypeText ^( Trees ', Tree
+-- after TypeText ^< Tag '_
 abbrev pub state_170 : Row
 state_170 = at
-    ((35, 3, 8590196736) ∷ [])
+    ((74, 1, 33554432) ∷ [])
+    []
+    ((5, (0, 217)) ∷ [])
     []
     []
-    []
-    ((35, 8590196736) ∷ [])
 
--- after TypeText ^[ Alts '| RSeq
+-- after TypeText ^< ^( Tree
 abbrev pub state_171 : Row
 state_171 = at
-    ((79, 3, 2148532224) ∷ [])
+    ((65, 2, 7157336699499828216832) ∷ [])
+    []
+    ((19, (0, 218)) ∷ [])
     []
     []
-    []
-    ((79, 2148532224) ∷ [])
 
--- after TypeText ^[ RSeq '| RSeq
+-- after TypeText Int '-- Int
 abbrev pub state_172 : Row
 state_172 = at
-    ((78, 3, 2148532224) ∷ [])
+    ((37, 3, 85002596690621680649373) ∷ [])
     []
     []
     []
-    ((78, 2148532224) ∷ [])
+    ((37, 85002596690621680649373) ∷ [])
 
--- after TypeText ^[ ISigns '\ Simple
+-- after TypeText Char1 '-- Char1
 abbrev pub state_173 : Row
 state_173 = at
-    ((111, 3, 72636306881511293085) ∷ [])
+    ((41, 3, 85002596690621680649373) ∷ [])
     []
     []
     []
-    ((111, 72636306881511293085) ∷ [])
+    ((41, 85002596690621680649373) ∷ [])
 
--- after TypeText ^[ ISigns '& Simple
+-- after TypeFile 'type TypeName '=
 abbrev pub state_174 : Row
 state_174 = at
-    ((110, 3, 72636306881511293085) ∷ [])
-    []
-    []
-    []
-    ((110, 72636306881511293085) ∷ [])
-
--- after TypeText ^[ IBase '\ Simple
-abbrev pub state_175 : Row
-state_175 = at
-    ((109, 3, 72636306881511293085) ∷ [])
-    []
-    []
-    []
-    ((109, 72636306881511293085) ∷ [])
-
--- after TypeText ^[ IBase '& Simple
-abbrev pub state_176 : Row
-state_176 = at
-    ((108, 3, 72636306881511293085) ∷ [])
-    []
-    []
-    []
-    ((108, 72636306881511293085) ∷ [])
-
--- after TypeText ^[ ^( Group Postfix
-abbrev pub state_177 : Row
-state_177 = at
-    ((104, 2, 72634055067268153345) ∷ [])
-    []
-    []
-    []
-    ((104, 72634055067268153345) ∷ [])
-
--- after TypeText ^[ ^( GReg ')
-abbrev pub state_178 : Row
-state_178 = at
-    ((89, 3, 72634055067738963997) ∷ [])
-    []
-    []
-    []
-    ((89, 72634055067738963997) ∷ [])
-
--- after TypeText ^[ ^( GAlts '|
-abbrev pub state_179 : Row
-state_179 = at
-    ((96, 2, 2147745792) ∷ (97, 2, 2147745792) ∷ [])
-    ((17, begin_at 3 112 0 72634055073106624541) ∷ (32, begin_at 3 103 0 72634055067737915421) ∷
-    (35, begin_at 1 96 2 2147745792) ∷ (36, begin_at 2 99 0 72634055067268153345) ∷
-    (37, begin_at 2 98 0 72634055067268153345) ∷ (38, begin_at 1 97 2 72634055067737915421) ∷
-    (39, begin_at 2 107 0 72634055073106624541) ∷ (40, begin_at 2 106 0 72634055073106624541) ∷
-    (41, begin_at 3 114 0 72634055073106624541) ∷ [])
-    ((0, (0, 15)) ∷ (17, (1, 58)) ∷ (19, (1, 17)) ∷ (21, (1, 18)) ∷ (23, (1, 19)) ∷ (38, (0, 20)) ∷
-    (60, (0, 21)) ∷ (61, (0, 22)) ∷ (62, (0, 60)) ∷ (63, (0, 23)) ∷ (64, (0, 24)) ∷ (65, (0, 25)) ∷
+    ((10, 3, 75557863732511393251328) ∷ [])
+    ((5, begin_at 1 10 3 75557863732511393251328) ∷ (8, begin_at 2 11 0 75557872739710647992320) ∷
+    (9, begin_at 3 17 0 75557872739710647992320) ∷ (10, begin_at 3 16 0 75557872739710647992448) ∷
+    (11, begin_at 4 21 0 75557872739714942959744) ∷ (12, begin_at 4 20 0 75557872739714942959744) ∷
+    (13, begin_at 5 25 0 75557872739725680377984) ∷ (14, begin_at 5 24 0 75557872739725680377984) ∷
+    (15, begin_at 6 31 0 75557872739725680377984) ∷ (17, begin_at 6 30 0 75557872739725680377984) ∷
     [])
-    ((17, 46) ∷ (32, 135) ∷ (35, 213) ∷ (36, 139) ∷ (37, 140) ∷ (38, 214) ∷ (39, 55) ∷ (40, 56) ∷
-    (41, 57) ∷ [])
-    []
-
--- after TypeText ^[ ^( GSeq '|
-abbrev pub state_180 : Row
-state_180 = at
-    ((92, 2, 2147745792) ∷ (93, 2, 2147745792) ∷ [])
-    ((17, begin_at 3 112 0 72634055073106624541) ∷ (32, begin_at 3 103 0 72634055067737915421) ∷
-    (35, begin_at 1 92 2 2147745792) ∷ (36, begin_at 2 99 0 72634055067268153345) ∷
-    (37, begin_at 2 98 0 72634055067268153345) ∷ (38, begin_at 1 93 2 72634055067737915421) ∷
-    (39, begin_at 2 107 0 72634055073106624541) ∷ (40, begin_at 2 106 0 72634055073106624541) ∷
-    (41, begin_at 3 114 0 72634055073106624541) ∷ [])
-    ((0, (0, 15)) ∷ (17, (1, 58)) ∷ (19, (1, 17)) ∷ (21, (1, 18)) ∷ (23, (1, 19)) ∷ (38, (0, 20)) ∷
-    (60, (0, 21)) ∷ (61, (0, 22)) ∷ (62, (0, 60)) ∷ (63, (0, 23)) ∷ (64, (0, 24)) ∷ (65, (0, 25)) ∷
-    [])
-    ((17, 46) ∷ (32, 135) ∷ (35, 215) ∷ (36, 139) ∷ (37, 140) ∷ (38, 216) ∷ (39, 55) ∷ (40, 56) ∷
-    (41, 57) ∷ [])
-    []
-
--- after TypeText ^[ ^( GPosts RPost
-abbrev pub state_181 : Row
-state_181 = at
-    ((102, 2, 72634055067268153345) ∷ [])
-    []
-    []
-    []
-    ((102, 72634055067268153345) ∷ [])
-
--- after TypeText ^[ ^( GItem RPost
-abbrev pub state_182 : Row
-state_182 = at
-    ((100, 2, 72634055067268153345) ∷ [])
-    []
-    []
-    []
-    ((100, 72634055067268153345) ∷ [])
-
--- after TypeText ^[ ^( IItem RPost
-abbrev pub state_183 : Row
-state_183 = at
-    ((101, 2, 72634055067268153345) ∷ [])
-    []
-    []
-    []
-    ((101, 72634055067268153345) ∷ [])
-
--- after TypeText ^[ ^( IItem Postfix
-abbrev pub state_184 : Row
-state_184 = at
-    ((105, 2, 72634055067268153345) ∷ [])
-    []
-    []
-    []
-    ((105, 72634055067268153345) ∷ [])
-
--- after TypeText ^[ ^( IItem '|
-abbrev pub state_185 : Row
-state_185 = at
-    ((94, 2, 2147745792) ∷ (129, 2, 2251810551365760) ∷ [])
-    ((17, begin_at 3 112 0 72636306881510244509) ∷ (32, begin_at 3 103 0 72634055067737915421) ∷
-    (35, begin_at 1 94 2 2147745792) ∷ (36, begin_at 2 99 0 72634055067268153345) ∷
-    (37, begin_at 2 98 0 72634055067268153345) ∷ (38, begin_at 1 129 2 72636306876141535389) ∷
-    (39, begin_at 2 107 0 72636306881510244509) ∷ (40, begin_at 2 106 0 72636306881510244509) ∷
-    (41, begin_at 3 114 0 72636306881510244509) ∷ [])
-    ((0, (0, 15)) ∷ (17, (1, 58)) ∷ (19, (1, 17)) ∷ (21, (1, 18)) ∷ (23, (1, 19)) ∷ (38, (0, 20)) ∷
-    (60, (0, 21)) ∷ (61, (0, 22)) ∷ (62, (0, 60)) ∷ (63, (0, 23)) ∷ (64, (0, 24)) ∷ (65, (0, 25)) ∷
-    [])
-    ((17, 46) ∷ (32, 135) ∷ (35, 217) ∷ (36, 139) ∷ (37, 140) ∷ (38, 218) ∷ (39, 55) ∷ (40, 56) ∷
-    (41, 57) ∷ [])
-    []
-
--- after TypeText ^[ ^( ITrees ')
-abbrev pub state_186 : Row
-state_186 = at
-    ((115, 3, 72636306881511293085) ∷ [])
-    []
-    []
-    []
-    ((115, 72636306881511293085) ∷ [])
-
--- after TypeText ^[ ^( ITrees ',
-abbrev pub state_187 : Row
-state_187 = at
-    ((118, 2, 8590196736) ∷ [])
-    ((5, begin_at 1 118 2 8590196736) ∷ (8, begin_at 2 11 0 2251808403881984) ∷
-    (9, begin_at 3 17 0 2251808403881984) ∷ (10, begin_at 3 16 0 2251808403882112) ∷
-    (11, begin_at 4 21 0 2251810551365760) ∷ (12, begin_at 4 20 0 2251810551365760) ∷
-    (13, begin_at 5 25 0 2251815920074880) ∷ (14, begin_at 5 24 0 2251815920074880) ∷
-    (15, begin_at 6 31 0 2251815920074880) ∷ (17, begin_at 6 30 0 2251815920074880) ∷ [])
-    ((0, (0, 15)) ∷ (17, (1, 16)) ∷ (19, (1, 17)) ∷ (21, (1, 18)) ∷ (23, (1, 19)) ∷ (38, (0, 20)) ∷
-    (60, (0, 21)) ∷ (61, (0, 22)) ∷ (63, (0, 23)) ∷ (64, (0, 24)) ∷ (65, (0, 25)) ∷ [])
+    ((0, (0, 15)) ∷ (18, (1, 16)) ∷ (20, (1, 17)) ∷ (22, (1, 18)) ∷ (24, (1, 19)) ∷ (40, (0, 20)) ∷
+    (66, (0, 21)) ∷ (67, (0, 22)) ∷ (69, (0, 23)) ∷ (70, (0, 24)) ∷ (71, (0, 25)) ∷ [])
     ((5, 219) ∷ (8, 6) ∷ (9, 7) ∷ (10, 8) ∷ (11, 9) ∷ (12, 10) ∷ (13, 11) ∷ (14, 12) ∷ (15, 13) ∷
     (17, 14) ∷ [])
     []
 
--- after TypeText ^[ ^( ITree ',
+-- after ProgramText ^let ^fun Variable
+abbrev pub state_175 : Row
+state_175 = at
+    ((309, 3, 75557863732511393251328) ∷ [])
+    ((104, begin_at 1 309 3 9075798085368928272385) ∷ [])
+    ((18, (1, 221)) ∷ [])
+    ((104, 220) ∷ [])
+    []
+
+-- after TypeText Arrow 'where Names 'and
+abbrev pub state_176 : Row
+state_176 = at
+    ((14, 2, 75557881748060962882560) ∷ [])
+    ((7, begin_at 1 14 2 75557881748060962882560) ∷ [])
+    ((71, (0, 112)) ∷ [])
+    ((7, 222) ∷ [])
+    []
+
+-- after TypeText Arrow 'where TypeName '=
+abbrev pub state_177 : Row
+state_177 = at
+    ((15, 2, 75557881748060962882560) ∷ [])
+    ((8, begin_at 1 15 2 75557881748060962882560) ∷ (9, begin_at 2 17 0 75557881748060962882560) ∷
+    (10, begin_at 2 16 0 75557881748060962882688) ∷ (11, begin_at 3 21 0 75557881748065257849984) ∷
+    (12, begin_at 3 20 0 75557881748065257849984) ∷ (13, begin_at 4 25 0 75557881748075995268224) ∷
+    (14, begin_at 4 24 0 75557881748075995268224) ∷ (15, begin_at 5 31 0 75557881748075995268224) ∷
+    (17, begin_at 5 30 0 75557881748075995268224) ∷ [])
+    ((0, (0, 15)) ∷ (18, (1, 16)) ∷ (20, (1, 17)) ∷ (22, (1, 18)) ∷ (24, (1, 19)) ∷ (40, (0, 20)) ∷
+    (66, (0, 21)) ∷ (67, (0, 22)) ∷ (69, (0, 23)) ∷ (70, (0, 24)) ∷ (71, (0, 25)) ∷ [])
+    ((8, 223) ∷ (9, 7) ∷ (10, 8) ∷ (11, 9) ∷ (12, 10) ∷ (13, 11) ∷ (14, 12) ∷ (15, 13) ∷ (17, 14) ∷
+    [])
+    []
+
+-- after TypeText ^( Tree ', Tree
+abbrev pub state_178 : Row
+state_178 = at
+    ((34, 3, 17180393472) ∷ [])
+    []
+    []
+    []
+    ((34, 17180393472) ∷ [])
+
+-- after TypeText ^( Trees ', Tree
+abbrev pub state_179 : Row
+state_179 = at
+    ((35, 3, 17180393472) ∷ [])
+    []
+    []
+    []
+    ((35, 17180393472) ∷ [])
+
+-- after TypeText ^[ Alts '| RSeq
+abbrev pub state_180 : Row
+state_180 = at
+    ((83, 3, 4297064448) ∷ [])
+    []
+    []
+    []
+    ((83, 4297064448) ∷ [])
+
+-- after TypeText ^[ RSeq '| RSeq
+abbrev pub state_181 : Row
+state_181 = at
+    ((82, 3, 4297064448) ∷ [])
+    []
+    []
+    []
+    ((82, 4297064448) ∷ [])
+
+-- after TypeText ^[ ISigns '\ Simple
+abbrev pub state_182 : Row
+state_182 = at
+    ((115, 3, 4648588514906750058653) ∷ [])
+    []
+    []
+    []
+    ((115, 4648588514906750058653) ∷ [])
+
+-- after TypeText ^[ ISigns '& Simple
+abbrev pub state_183 : Row
+state_183 = at
+    ((114, 3, 4648588514906750058653) ∷ [])
+    []
+    []
+    []
+    ((114, 4648588514906750058653) ∷ [])
+
+-- after TypeText ^[ IBase '\ Simple
+abbrev pub state_184 : Row
+state_184 = at
+    ((113, 3, 4648588514906750058653) ∷ [])
+    []
+    []
+    []
+    ((113, 4648588514906750058653) ∷ [])
+
+-- after TypeText ^[ IBase '& Simple
+abbrev pub state_185 : Row
+state_185 = at
+    ((112, 3, 4648588514906750058653) ∷ [])
+    []
+    []
+    []
+    ((112, 4648588514906750058653) ∷ [])
+
+-- after TypeText ^[ ^( Group Postfix
+abbrev pub state_186 : Row
+state_186 = at
+    ((108, 2, 4648579507678636408833) ∷ [])
+    []
+    []
+    []
+    ((108, 4648579507678636408833) ∷ [])
+
+-- after TypeText ^[ ^( GReg ')
+abbrev pub state_187 : Row
+state_187 = at
+    ((93, 3, 4648579507679578030109) ∷ [])
+    []
+    []
+    []
+    ((93, 4648579507679578030109) ∷ [])
+
+-- after TypeText ^[ ^( GAlts '|
 abbrev pub state_188 : Row
 state_188 = at
-    ((117, 2, 8590196736) ∷ [])
-    ((5, begin_at 1 117 2 8590196736) ∷ (8, begin_at 2 11 0 2251808403881984) ∷
-    (9, begin_at 3 17 0 2251808403881984) ∷ (10, begin_at 3 16 0 2251808403882112) ∷
-    (11, begin_at 4 21 0 2251810551365760) ∷ (12, begin_at 4 20 0 2251810551365760) ∷
-    (13, begin_at 5 25 0 2251815920074880) ∷ (14, begin_at 5 24 0 2251815920074880) ∷
-    (15, begin_at 6 31 0 2251815920074880) ∷ (17, begin_at 6 30 0 2251815920074880) ∷ [])
-    ((0, (0, 15)) ∷ (17, (1, 16)) ∷ (19, (1, 17)) ∷ (21, (1, 18)) ∷ (23, (1, 19)) ∷ (38, (0, 20)) ∷
-    (60, (0, 21)) ∷ (61, (0, 22)) ∷ (63, (0, 23)) ∷ (64, (0, 24)) ∷ (65, (0, 25)) ∷ [])
-    ((5, 220) ∷ (8, 6) ∷ (9, 7) ∷ (10, 8) ∷ (11, 9) ∷ (12, 10) ∷ (13, 11) ∷ (14, 12) ∷ (15, 13) ∷
+    ((100, 2, 4295491584) ∷ (101, 2, 4295491584) ∷ [])
+    ((17, begin_at 3 116 0 4648579507690313351197) ∷ (34, begin_at 3 107 0 4648579507679575932957) ∷
+    (37, begin_at 1 100 2 4295491584) ∷ (38, begin_at 2 103 0 4648579507678636408833) ∷
+    (39, begin_at 2 102 0 4648579507678636408833) ∷ (40, begin_at 1 101 2 4648579507679575932957) ∷
+    (41, begin_at 2 111 0 4648579507690313351197) ∷ (42, begin_at 2 110 0 4648579507690313351197) ∷
+    (43, begin_at 3 118 0 4648579507690313351197) ∷ [])
+    ((0, (0, 15)) ∷ (18, (1, 58)) ∷ (20, (1, 17)) ∷ (22, (1, 18)) ∷ (24, (1, 19)) ∷ (40, (0, 20)) ∷
+    (66, (0, 21)) ∷ (67, (0, 22)) ∷ (68, (0, 60)) ∷ (69, (0, 23)) ∷ (70, (0, 24)) ∷ (71, (0, 25)) ∷
+    [])
+    ((17, 46) ∷ (34, 141) ∷ (37, 224) ∷ (38, 145) ∷ (39, 146) ∷ (40, 225) ∷ (41, 55) ∷ (42, 56) ∷
+    (43, 57) ∷ [])
+    []
+
+-- after TypeText ^[ ^( GSeq '|
+abbrev pub state_189 : Row
+state_189 = at
+    ((96, 2, 4295491584) ∷ (97, 2, 4295491584) ∷ [])
+    ((17, begin_at 3 116 0 4648579507690313351197) ∷ (34, begin_at 3 107 0 4648579507679575932957) ∷
+    (37, begin_at 1 96 2 4295491584) ∷ (38, begin_at 2 103 0 4648579507678636408833) ∷
+    (39, begin_at 2 102 0 4648579507678636408833) ∷ (40, begin_at 1 97 2 4648579507679575932957) ∷
+    (41, begin_at 2 111 0 4648579507690313351197) ∷ (42, begin_at 2 110 0 4648579507690313351197) ∷
+    (43, begin_at 3 118 0 4648579507690313351197) ∷ [])
+    ((0, (0, 15)) ∷ (18, (1, 58)) ∷ (20, (1, 17)) ∷ (22, (1, 18)) ∷ (24, (1, 19)) ∷ (40, (0, 20)) ∷
+    (66, (0, 21)) ∷ (67, (0, 22)) ∷ (68, (0, 60)) ∷ (69, (0, 23)) ∷ (70, (0, 24)) ∷ (71, (0, 25)) ∷
+    [])
+    ((17, 46) ∷ (34, 141) ∷ (37, 226) ∷ (38, 145) ∷ (39, 146) ∷ (40, 227) ∷ (41, 55) ∷ (42, 56) ∷
+    (43, 57) ∷ [])
+    []
+
+-- after TypeText ^[ ^( GPosts RPost
+abbrev pub state_190 : Row
+state_190 = at
+    ((106, 2, 4648579507678636408833) ∷ [])
+    []
+    []
+    []
+    ((106, 4648579507678636408833) ∷ [])
+
+-- after TypeText ^[ ^( GItem RPost
+abbrev pub state_191 : Row
+state_191 = at
+    ((104, 2, 4648579507678636408833) ∷ [])
+    []
+    []
+    []
+    ((104, 4648579507678636408833) ∷ [])
+
+-- after TypeText ^[ ^( IItem RPost
+abbrev pub state_192 : Row
+state_192 = at
+    ((105, 2, 4648579507678636408833) ∷ [])
+    []
+    []
+    []
+    ((105, 4648579507678636408833) ∷ [])
+
+-- after TypeText ^[ ^( IItem Postfix
+abbrev pub state_193 : Row
+state_193 = at
+    ((109, 2, 4648579507678636408833) ∷ [])
+    []
+    []
+    []
+    ((109, 4648579507678636408833) ∷ [])
+
+-- after TypeText ^[ ^( IItem '|
+abbrev pub state_194 : Row
+state_194 = at
+    ((98, 2, 4295491584) ∷ (133, 2, 9007220730101888) ∷ [])
+    ((17, begin_at 3 116 0 4648588514906747961501) ∷ (34, begin_at 3 107 0 4648579507679575932957) ∷
+    (37, begin_at 1 98 2 4295491584) ∷ (38, begin_at 2 103 0 4648579507678636408833) ∷
+    (39, begin_at 2 102 0 4648579507678636408833) ∷ (40, begin_at 1 133 2 4648588514896010543261) ∷
+    (41, begin_at 2 111 0 4648588514906747961501) ∷ (42, begin_at 2 110 0 4648588514906747961501) ∷
+    (43, begin_at 3 118 0 4648588514906747961501) ∷ [])
+    ((0, (0, 15)) ∷ (18, (1, 58)) ∷ (20, (1, 17)) ∷ (22, (1, 18)) ∷ (24, (1, 19)) ∷ (40, (0, 20)) ∷
+    (66, (0, 21)) ∷ (67, (0, 22)) ∷ (68, (0, 60)) ∷ (69, (0, 23)) ∷ (70, (0, 24)) ∷ (71, (0, 25)) ∷
+    [])
+    ((17, 46) ∷ (34, 141) ∷ (37, 228) ∷ (38, 145) ∷ (39, 146) ∷ (40, 229) ∷ (41, 55) ∷ (42, 56) ∷
+    (43, 57) ∷ [])
+    []
+
+-- after TypeText ^[ ^( ITrees ')
+abbrev pub state_195 : Row
+state_195 = at
+    ((119, 3, 4648588514906750058653) ∷ [])
+    []
+    []
+    []
+    ((119, 4648588514906750058653) ∷ [])
+
+-- after TypeText ^[ ^( ITrees ',
+abbrev pub state_196 : Row
+state_196 = at
+    ((122, 2, 17180393472) ∷ [])
+    ((5, begin_at 1 122 2 17180393472) ∷ (8, begin_at 2 11 0 9007216435134464) ∷
+    (9, begin_at 3 17 0 9007216435134464) ∷ (10, begin_at 3 16 0 9007216435134592) ∷
+    (11, begin_at 4 21 0 9007220730101888) ∷ (12, begin_at 4 20 0 9007220730101888) ∷
+    (13, begin_at 5 25 0 9007231467520128) ∷ (14, begin_at 5 24 0 9007231467520128) ∷
+    (15, begin_at 6 31 0 9007231467520128) ∷ (17, begin_at 6 30 0 9007231467520128) ∷ [])
+    ((0, (0, 15)) ∷ (18, (1, 16)) ∷ (20, (1, 17)) ∷ (22, (1, 18)) ∷ (24, (1, 19)) ∷ (40, (0, 20)) ∷
+    (66, (0, 21)) ∷ (67, (0, 22)) ∷ (69, (0, 23)) ∷ (70, (0, 24)) ∷ (71, (0, 25)) ∷ [])
+    ((5, 230) ∷ (8, 6) ∷ (9, 7) ∷ (10, 8) ∷ (11, 9) ∷ (12, 10) ∷ (13, 11) ∷ (14, 12) ∷ (15, 13) ∷
+    (17, 14) ∷ [])
+    []
+
+-- after TypeText ^[ ^( ITree ',
+abbrev pub state_197 : Row
+state_197 = at
+    ((121, 2, 17180393472) ∷ [])
+    ((5, begin_at 1 121 2 17180393472) ∷ (8, begin_at 2 11 0 9007216435134464) ∷
+    (9, begin_at 3 17 0 9007216435134464) ∷ (10, begin_at 3 16 0 9007216435134592) ∷
+    (11, begin_at 4 21 0 9007220730101888) ∷ (12, begin_at 4 20 0 9007220730101888) ∷
+    (13, begin_at 5 25 0 9007231467520128) ∷ (14, begin_at 5 24 0 9007231467520128) ∷
+    (15, begin_at 6 31 0 9007231467520128) ∷ (17, begin_at 6 30 0 9007231467520128) ∷ [])
+    ((0, (0, 15)) ∷ (18, (1, 16)) ∷ (20, (1, 17)) ∷ (22, (1, 18)) ∷ (24, (1, 19)) ∷ (40, (0, 20)) ∷
+    (66, (0, 21)) ∷ (67, (0, 22)) ∷ (69, (0, 23)) ∷ (70, (0, 24)) ∷ (71, (0, 25)) ∷ [])
+    ((5, 231) ∷ (8, 6) ∷ (9, 7) ∷ (10, 8) ∷ (11, 9) ∷ (12, 10) ∷ (13, 11) ∷ (14, 12) ∷ (15, 13) ∷
     (17, 14) ∷ [])
     []
 
 -- after TypeText ^[ ^( OwnTree ')
-abbrev pub state_189 : Row
-state_189 = at
-    ((116, 3, 72636306881511293085) ∷ [])
+abbrev pub state_198 : Row
+state_198 = at
+    ((120, 3, 4648588514906750058653) ∷ [])
     []
     []
     []
-    ((116, 72636306881511293085) ∷ [])
+    ((120, 4648588514906750058653) ∷ [])
 
 -- after TypeText ^[ ^( IArrow 'where
-abbrev pub state_190 : Row
-state_190 = at
-    ((122, 2, 8590196736) ∷ [])
-    ((6, begin_at 1 122 2 4503608217567232) ∷ (7, begin_at 2 13 0 4503608217567232) ∷ [])
-    ((65, (0, 106)) ∷ [])
-    ((6, 221) ∷ (7, 105) ∷ [])
+abbrev pub state_199 : Row
+state_199 = at
+    ((126, 2, 17180393472) ∷ [])
+    ((6, begin_at 1 126 2 18014415689875456) ∷ (7, begin_at 2 13 0 18014415689875456) ∷ [])
+    ((71, (0, 112)) ∷ [])
+    ((6, 232) ∷ (7, 111) ∷ [])
     []
 
 -- after TypeText ^[ ^( IUnion ^->
-abbrev pub state_191 : Row
-state_191 = at
-    ((125, 2, 2251808403881984) ∷ (126, 2, 2251808403881984) ∷ [])
-    ((9, begin_at 1 126 2 2251808403881984) ∷ (10, begin_at 1 125 2 2251808403882112) ∷
-    (11, begin_at 2 21 0 2251810551365760) ∷ (12, begin_at 2 20 0 2251810551365760) ∷
-    (13, begin_at 3 25 0 2251815920074880) ∷ (14, begin_at 3 24 0 2251815920074880) ∷
-    (15, begin_at 4 31 0 2251815920074880) ∷ (17, begin_at 4 30 0 2251815920074880) ∷ [])
-    ((0, (0, 15)) ∷ (17, (1, 16)) ∷ (19, (1, 17)) ∷ (21, (1, 18)) ∷ (23, (1, 19)) ∷ (38, (0, 20)) ∷
-    (60, (0, 21)) ∷ (61, (0, 22)) ∷ (63, (0, 23)) ∷ (64, (0, 24)) ∷ (65, (0, 25)) ∷ [])
-    ((9, 222) ∷ (10, 223) ∷ (11, 9) ∷ (12, 10) ∷ (13, 11) ∷ (14, 12) ∷ (15, 13) ∷ (17, 14) ∷ [])
+abbrev pub state_200 : Row
+state_200 = at
+    ((129, 2, 9007216435134464) ∷ (130, 2, 9007216435134464) ∷ [])
+    ((9, begin_at 1 130 2 9007216435134464) ∷ (10, begin_at 1 129 2 9007216435134592) ∷
+    (11, begin_at 2 21 0 9007220730101888) ∷ (12, begin_at 2 20 0 9007220730101888) ∷
+    (13, begin_at 3 25 0 9007231467520128) ∷ (14, begin_at 3 24 0 9007231467520128) ∷
+    (15, begin_at 4 31 0 9007231467520128) ∷ (17, begin_at 4 30 0 9007231467520128) ∷ [])
+    ((0, (0, 15)) ∷ (18, (1, 16)) ∷ (20, (1, 17)) ∷ (22, (1, 18)) ∷ (24, (1, 19)) ∷ (40, (0, 20)) ∷
+    (66, (0, 21)) ∷ (67, (0, 22)) ∷ (69, (0, 23)) ∷ (70, (0, 24)) ∷ (71, (0, 25)) ∷ [])
+    ((9, 233) ∷ (10, 234) ∷ (11, 9) ∷ (12, 10) ∷ (13, 11) ∷ (14, 12) ∷ (15, 13) ∷ (17, 14) ∷ [])
     []
 
 -- after TypeText ^[ ^( IUnion ')
-abbrev pub state_192 : Row
-state_192 = at
-    ((113, 3, 72636306881511293085) ∷ [])
+abbrev pub state_201 : Row
+state_201 = at
+    ((117, 3, 4648588514906750058653) ∷ [])
     []
     []
     []
-    ((113, 72636306881511293085) ∷ [])
+    ((117, 4648588514906750058653) ∷ [])
 
 -- after TypeText ^[ ^( IUnion 'where
-abbrev pub state_193 : Row
-state_193 = at
-    ((123, 2, 8590196736) ∷ [])
-    ((6, begin_at 1 123 2 4503608217567232) ∷ (7, begin_at 2 13 0 4503608217567232) ∷ [])
-    ((65, (0, 106)) ∷ [])
-    ((6, 224) ∷ (7, 105) ∷ [])
+abbrev pub state_202 : Row
+state_202 = at
+    ((127, 2, 17180393472) ∷ [])
+    ((6, begin_at 1 127 2 18014415689875456) ∷ (7, begin_at 2 13 0 18014415689875456) ∷ [])
+    ((71, (0, 112)) ∷ [])
+    ((6, 235) ∷ (7, 111) ∷ [])
     []
 
 -- after TypeText ^[ ^( IAlts '|
-abbrev pub state_194 : Row
-state_194 = at
-    ((95, 2, 2147745792) ∷ (130, 2, 2251810551365760) ∷ [])
-    ((17, begin_at 3 112 0 72636306881510244509) ∷ (32, begin_at 3 103 0 72634055067737915421) ∷
-    (35, begin_at 1 95 2 2147745792) ∷ (36, begin_at 2 99 0 72634055067268153345) ∷
-    (37, begin_at 2 98 0 72634055067268153345) ∷ (38, begin_at 1 130 2 72636306876141535389) ∷
-    (39, begin_at 2 107 0 72636306881510244509) ∷ (40, begin_at 2 106 0 72636306881510244509) ∷
-    (41, begin_at 3 114 0 72636306881510244509) ∷ [])
-    ((0, (0, 15)) ∷ (17, (1, 58)) ∷ (19, (1, 17)) ∷ (21, (1, 18)) ∷ (23, (1, 19)) ∷ (38, (0, 20)) ∷
-    (60, (0, 21)) ∷ (61, (0, 22)) ∷ (62, (0, 60)) ∷ (63, (0, 23)) ∷ (64, (0, 24)) ∷ (65, (0, 25)) ∷
-    [])
-    ((17, 46) ∷ (32, 135) ∷ (35, 225) ∷ (36, 139) ∷ (37, 140) ∷ (38, 226) ∷ (39, 55) ∷ (40, 56) ∷
-    (41, 57) ∷ [])
-    []
-
--- after TypeText ^{ FieldList '; Field
-abbrev pub state_195 : Row
-state_195 = at
-    ((58, 3, 17184064512) ∷ [])
-    []
-    []
-    []
-    ((58, 17184064512) ∷ [])
-
--- after TypeText ^{ FieldList '; '..
-abbrev pub state_196 : Row
-state_196 = at
-    ((56, 3, 4194304) ∷ [])
-    []
-    []
-    []
-    ((56, 4194304) ∷ [])
-
--- after TypeText ^{ Label '=? Tree
-abbrev pub state_197 : Row
-state_197 = at
-    ((60, 3, 17184064512) ∷ [])
-    []
-    []
-    []
-    ((60, 17184064512) ∷ [])
-
--- after TypeText ^{ Label '= Tree
-abbrev pub state_198 : Row
-state_198 = at
-    ((59, 3, 17184064512) ∷ [])
-    []
-    []
-    []
-    ((59, 17184064512) ∷ [])
-
--- after TypeText ^< Tag Attrs '>
-abbrev pub state_199 : Row
-state_199 = at
-    ((51, 4, 1328165573065999058077) ∷ [])
-    ((14, begin_at 1 51 4 1328165573065999058077) ∷ (15, begin_at 2 31 0 1328165573065999058077) ∷
-    (17, begin_at 2 30 0 1328165573065999058077) ∷ [])
-    ((0, (0, 15)) ∷ (17, (1, 16)) ∷ (19, (1, 17)) ∷ (21, (1, 18)) ∷ (23, (1, 19)) ∷ (38, (0, 20)) ∷
-    (60, (0, 21)) ∷ (61, (0, 22)) ∷ (63, (0, 23)) ∷ (64, (0, 24)) ∷ (65, (0, 25)) ∷ [])
-    ((14, 227) ∷ (15, 13) ∷ (17, 14) ∷ [])
-    []
-
--- after TypeText ^< Tag AttrList Attr
-abbrev pub state_200 : Row
-state_200 = at
-    ((72, 2, 111833385414304990208) ∷ [])
-    []
-    []
-    []
-    ((72, 111833385414304990208) ∷ [])
-
--- after TypeText ^< Tag AttrList '..
-abbrev pub state_201 : Row
-state_201 = at
-    ((69, 2, 16777216) ∷ [])
-    []
-    []
-    []
-    ((69, 16777216) ∷ [])
-
--- after TypeText ^< Tag AttrList ';
-abbrev pub state_202 : Row
-state_202 = at
-    ((67, 2, 16777216) ∷ (70, 2, 16777216) ∷ (73, 2, 111833385414304990208) ∷ [])
-    ((25, begin_at 1 73 2 111833385414304990208) ∷ (94, begin_at 2 74 0 33554464) ∷ [])
-    ((10, (0, 229)) ∷ (39, (0, 67)) ∷ (40, (0, 68)) ∷ (41, (0, 69)) ∷ (42, (0, 70)) ∷
-    (43, (0, 71)) ∷ (44, (0, 72)) ∷ (45, (0, 73)) ∷ (46, (0, 74)) ∷ (47, (0, 75)) ∷ (48, (0, 76)) ∷
-    (49, (0, 77)) ∷ (50, (0, 78)) ∷ (51, (0, 79)) ∷ (52, (0, 80)) ∷ (53, (0, 81)) ∷ (54, (0, 82)) ∷
-    (55, (0, 83)) ∷ (56, (0, 84)) ∷ (57, (0, 85)) ∷ (58, (0, 86)) ∷ (59, (0, 87)) ∷ (65, (0, 88)) ∷
-    (66, (0, 89)) ∷ [])
-    ((25, 228) ∷ (94, 158) ∷ [])
-    ((67, 16777216) ∷ [])
-
--- after TypeText ^< Tag Label '=?
 abbrev pub state_203 : Row
 state_203 = at
-    ((75, 2, 111833385414304990208) ∷ [])
-    ((14, begin_at 1 75 2 111833385414304990208) ∷ (15, begin_at 2 31 0 111833385414304990208) ∷
-    (17, begin_at 2 30 0 111833385414304990208) ∷ [])
-    ((0, (0, 15)) ∷ (17, (1, 16)) ∷ (19, (1, 17)) ∷ (21, (1, 18)) ∷ (23, (1, 19)) ∷ (38, (0, 20)) ∷
-    (60, (0, 21)) ∷ (61, (0, 22)) ∷ (63, (0, 23)) ∷ (64, (0, 24)) ∷ (65, (0, 25)) ∷ [])
-    ((14, 230) ∷ (15, 13) ∷ (17, 14) ∷ [])
+    ((99, 2, 4295491584) ∷ (134, 2, 9007220730101888) ∷ [])
+    ((17, begin_at 3 116 0 4648588514906747961501) ∷ (34, begin_at 3 107 0 4648579507679575932957) ∷
+    (37, begin_at 1 99 2 4295491584) ∷ (38, begin_at 2 103 0 4648579507678636408833) ∷
+    (39, begin_at 2 102 0 4648579507678636408833) ∷ (40, begin_at 1 134 2 4648588514896010543261) ∷
+    (41, begin_at 2 111 0 4648588514906747961501) ∷ (42, begin_at 2 110 0 4648588514906747961501) ∷
+    (43, begin_at 3 118 0 4648588514906747961501) ∷ [])
+    ((0, (0, 15)) ∷ (18, (1, 58)) ∷ (20, (1, 17)) ∷ (22, (1, 18)) ∷ (24, (1, 19)) ∷ (40, (0, 20)) ∷
+    (66, (0, 21)) ∷ (67, (0, 22)) ∷ (68, (0, 60)) ∷ (69, (0, 23)) ∷ (70, (0, 24)) ∷ (71, (0, 25)) ∷
+    [])
+    ((17, 46) ∷ (34, 141) ∷ (37, 236) ∷ (38, 145) ∷ (39, 146) ∷ (40, 237) ∷ (41, 55) ∷ (42, 56) ∷
+    (43, 57) ∷ [])
+    []
+
+-- after TypeText ^{ FieldList '; Others
+abbrev pub state_204 : Row
+state_204 = at
+    ((56, 3, 8388608) ∷ [])
+    []
+    []
+    []
+    ((56, 8388608) ∷ [])
+
+-- after TypeText ^{ FieldList '; Field
+abbrev pub state_205 : Row
+state_205 = at
+    ((60, 3, 1133879755776) ∷ [])
+    []
+    []
+    []
+    ((60, 1133879755776) ∷ [])
+
+-- after TypeText ^{ Label '=? Tree
+abbrev pub state_206 : Row
+state_206 = at
+    ((62, 3, 1133879755776) ∷ [])
+    []
+    []
+    []
+    ((62, 1133879755776) ∷ [])
+
+-- after TypeText ^{ Label '= Tree
+abbrev pub state_207 : Row
+state_207 = at
+    ((61, 3, 1133879755776) ∷ [])
+    []
+    []
+    []
+    ((61, 1133879755776) ∷ [])
+
+-- after TypeText ^{ '_ '=? Tree
+abbrev pub state_208 : Row
+state_208 = at
+    ((58, 3, 8388608) ∷ [])
+    []
+    []
+    []
+    ((58, 8388608) ∷ [])
+
+-- after TypeText ^< Tag Attrs '>
+abbrev pub state_209 : Row
+state_209 = at
+    ((51, 4, 85002596690621680649373) ∷ [])
+    ((14, begin_at 1 51 4 85002596690621680649373) ∷ (15, begin_at 2 31 0 85002596690621680649373) ∷
+    (17, begin_at 2 30 0 85002596690621680649373) ∷ [])
+    ((0, (0, 15)) ∷ (18, (1, 16)) ∷ (20, (1, 17)) ∷ (22, (1, 18)) ∷ (24, (1, 19)) ∷ (40, (0, 20)) ∷
+    (66, (0, 21)) ∷ (67, (0, 22)) ∷ (69, (0, 23)) ∷ (70, (0, 24)) ∷ (71, (0, 25)) ∷ [])
+    ((14, 238) ∷ (15, 13) ∷ (17, 14) ∷ [])
+    []
+
+-- after TypeText ^< Tag AttrList AttrOthers
+abbrev pub state_210 : Row
+state_210 = at
+    ((71, 2, 33554432) ∷ [])
+    []
+    []
+    []
+    ((71, 33554432) ∷ [])
+
+-- after TypeText ^< Tag AttrList Attr
+abbrev pub state_211 : Row
+state_211 = at
+    ((76, 2, 7157336699534187693056) ∷ [])
+    []
+    []
+    []
+    ((76, 7157336699534187693056) ∷ [])
+
+-- after TypeText ^< Tag AttrList ';
+abbrev pub state_212 : Row
+state_212 = at
+    ((69, 2, 33554432) ∷ (72, 2, 33554432) ∷ (77, 2, 7157336699534187693056) ∷ [])
+    ((25, begin_at 1 72 2 33554432) ∷ (27, begin_at 1 77 2 7157336699534187693056) ∷
+    (98, begin_at 2 78 0 67108896) ∷ [])
+    ((10, (0, 167)) ∷ (40, (0, 170)) ∷ (41, (0, 69)) ∷ (42, (0, 70)) ∷ (43, (0, 71)) ∷
+    (44, (0, 72)) ∷ (45, (0, 73)) ∷ (46, (0, 74)) ∷ (47, (0, 75)) ∷ (48, (0, 76)) ∷ (49, (0, 77)) ∷
+    (50, (0, 78)) ∷ (51, (0, 79)) ∷ (52, (0, 80)) ∷ (53, (0, 81)) ∷ (54, (0, 82)) ∷ (55, (0, 83)) ∷
+    (56, (0, 84)) ∷ (57, (0, 85)) ∷ (58, (0, 86)) ∷ (59, (0, 87)) ∷ (60, (0, 88)) ∷ (61, (0, 89)) ∷
+    (62, (0, 90)) ∷ (63, (0, 91)) ∷ (64, (0, 92)) ∷ (65, (0, 93)) ∷ (71, (0, 94)) ∷ (72, (0, 95)) ∷
+    [])
+    ((25, 239) ∷ (27, 240) ∷ (98, 166) ∷ [])
+    ((69, 33554432) ∷ [])
+
+-- after TypeText ^< Tag Label '=?
+abbrev pub state_213 : Row
+state_213 = at
+    ((79, 2, 7157336699534187693056) ∷ [])
+    ((14, begin_at 1 79 2 7157336699534187693056) ∷ (15, begin_at 2 31 0 7157336699534187693056) ∷
+    (17, begin_at 2 30 0 7157336699534187693056) ∷ [])
+    ((0, (0, 15)) ∷ (18, (1, 16)) ∷ (20, (1, 17)) ∷ (22, (1, 18)) ∷ (24, (1, 19)) ∷ (40, (0, 20)) ∷
+    (66, (0, 21)) ∷ (67, (0, 22)) ∷ (69, (0, 23)) ∷ (70, (0, 24)) ∷ (71, (0, 25)) ∷ [])
+    ((14, 241) ∷ (15, 13) ∷ (17, 14) ∷ [])
     []
 
 -- after TypeText ^< Tag Label '=
-abbrev pub state_204 : Row
-state_204 = at
-    ((74, 2, 111833385414304990208) ∷ [])
-    ((14, begin_at 1 74 2 111833385414304990208) ∷ (15, begin_at 2 31 0 111833385414304990208) ∷
-    (17, begin_at 2 30 0 111833385414304990208) ∷ [])
-    ((0, (0, 15)) ∷ (17, (1, 16)) ∷ (19, (1, 17)) ∷ (21, (1, 18)) ∷ (23, (1, 19)) ∷ (38, (0, 20)) ∷
-    (60, (0, 21)) ∷ (61, (0, 22)) ∷ (63, (0, 23)) ∷ (64, (0, 24)) ∷ (65, (0, 25)) ∷ [])
-    ((14, 231) ∷ (15, 13) ∷ (17, 14) ∷ [])
+abbrev pub state_214 : Row
+state_214 = at
+    ((78, 2, 7157336699534187693056) ∷ [])
+    ((14, begin_at 1 78 2 7157336699534187693056) ∷ (15, begin_at 2 31 0 7157336699534187693056) ∷
+    (17, begin_at 2 30 0 7157336699534187693056) ∷ [])
+    ((0, (0, 15)) ∷ (18, (1, 16)) ∷ (20, (1, 17)) ∷ (22, (1, 18)) ∷ (24, (1, 19)) ∷ (40, (0, 20)) ∷
+    (66, (0, 21)) ∷ (67, (0, 22)) ∷ (69, (0, 23)) ∷ (70, (0, 24)) ∷ (71, (0, 25)) ∷ [])
+    ((14, 242) ∷ (15, 13) ∷ (17, 14) ∷ [])
     []
 
 -- after TypeText ^< Tag ^( Tree
-abbrev pub state_205 : Row
-state_205 = at
-    ((65, 2, 16777216) ∷ [])
+abbrev pub state_215 : Row
+state_215 = at
+    ((67, 2, 33554432) ∷ [])
     []
-    ((18, (0, 232)) ∷ [])
+    ((19, (0, 243)) ∷ [])
     []
     []
 
 -- after TypeText ^< Tag '> Simple
-abbrev pub state_206 : Row
-state_206 = at
-    ((50, 4, 1328165573065999058077) ∷ [])
+abbrev pub state_216 : Row
+state_216 = at
+    ((50, 4, 85002596690621680649373) ∷ [])
     []
     []
     []
-    ((50, 1328165573065999058077) ∷ [])
+    ((50, 85002596690621680649373) ∷ [])
+
+-- after TypeText ^< Tag '_ '=?
+abbrev pub state_217 : Row
+state_217 = at
+    ((74, 2, 33554432) ∷ [])
+    ((14, begin_at 1 74 2 33554432) ∷ (15, begin_at 2 31 0 33554432) ∷
+    (17, begin_at 2 30 0 33554432) ∷ [])
+    ((0, (0, 15)) ∷ (18, (1, 16)) ∷ (20, (1, 17)) ∷ (22, (1, 18)) ∷ (24, (1, 19)) ∷ (40, (0, 20)) ∷
+    (66, (0, 21)) ∷ (67, (0, 22)) ∷ (69, (0, 23)) ∷ (70, (0, 24)) ∷ (71, (0, 25)) ∷ [])
+    ((14, 244) ∷ (15, 13) ∷ (17, 14) ∷ [])
+    []
 
 -- after TypeText ^< ^( Tree ')
-abbrev pub state_207 : Row
-state_207 = at
-    ((63, 3, 111833385397125252096) ∷ [])
+abbrev pub state_218 : Row
+state_218 = at
+    ((65, 3, 7157336699499828216832) ∷ [])
     []
     []
     []
-    ((63, 111833385397125252096) ∷ [])
+    ((65, 7157336699499828216832) ∷ [])
 
 -- after TypeFile 'type TypeName '= Tree
-abbrev pub state_208 : Row
-state_208 = at
-    ((10, 4, 1180591622366678810624) ∷ [])
+abbrev pub state_219 : Row
+state_219 = at
+    ((10, 4, 75557863732511393251328) ∷ [])
     []
     []
     []
-    ((10, 1180591622366678810624) ∷ [])
+    ((10, 75557863732511393251328) ∷ [])
 
 -- after ProgramText ^let ^fun Variable Interface
-abbrev pub state_209 : Row
-state_209 = at
-    ((297, 4, 1180591622366678810624) ∷ [])
-    ((54, begin_at 4 310 0 128) ∷ (55, begin_at 5 141 0 2147483776) ∷
-    (56, begin_at 5 140 0 2147483776) ∷ (57, begin_at 6 145 0 7516192896) ∷
-    (58, begin_at 6 144 0 7516192896) ∷ (59, begin_at 7 151 0 7516192896) ∷
-    (61, begin_at 7 150 0 7516192896) ∷ (95, begin_at 8 281 0 7516192896) ∷
-    (103, begin_at 1 297 4 1180591622366678810624) ∷
-    (104, begin_at 2 302 0 1180591622366678810624) ∷ (105, begin_at 3 305 0 141809345341531226113) ∷
-    (106, begin_at 4 306 0 141809345341531226113) ∷ (107, begin_at 5 308 0 2147483648) ∷
-    (108, begin_at 3 304 0 1180591622366678810624) ∷ [])
-    ((0, (0, 247)) ∷ (17, (1, 248)) ∷ (19, (1, 249)) ∷ (21, (1, 250)) ∷ (23, (1, 251)) ∷
-    (31, (0, 252)) ∷ (38, (0, 253)) ∷ (60, (0, 254)) ∷ (61, (0, 255)) ∷ (63, (0, 256)) ∷
-    (64, (0, 257)) ∷ (65, (0, 258)) ∷ (66, (0, 259)) ∷ [])
-    ((54, 233) ∷ (55, 234) ∷ (56, 235) ∷ (57, 236) ∷ (58, 237) ∷ (59, 238) ∷ (61, 239) ∷ (95, 240) ∷
-    (103, 241) ∷ (104, 242) ∷ (105, 243) ∷ (106, 244) ∷ (107, 245) ∷ (108, 246) ∷ [])
+abbrev pub state_220 : Row
+state_220 = at
+    ((309, 4, 75557863732511393251328) ∷ [])
+    ((56, begin_at 4 322 0 128) ∷ (57, begin_at 5 145 0 4294967424) ∷
+    (58, begin_at 5 144 0 4294967424) ∷ (59, begin_at 6 149 0 15032385664) ∷
+    (60, begin_at 6 148 0 15032385664) ∷ (61, begin_at 7 155 0 15032385664) ∷
+    (63, begin_at 7 154 0 15032385664) ∷ (99, begin_at 8 293 0 15032385664) ∷
+    (107, begin_at 1 309 4 75557863732511393251328) ∷
+    (108, begin_at 2 314 0 75557863732511393251328) ∷
+    (109, begin_at 3 317 0 9075798085364633305089) ∷
+    (110, begin_at 4 318 0 9075798085364633305089) ∷ (111, begin_at 5 320 0 4294967296) ∷
+    (112, begin_at 3 316 0 75557863732511393251328) ∷ [])
+    ((0, (0, 259)) ∷ (18, (1, 260)) ∷ (20, (1, 261)) ∷ (22, (1, 262)) ∷ (24, (1, 263)) ∷
+    (32, (0, 264)) ∷ (40, (0, 265)) ∷ (66, (0, 266)) ∷ (67, (0, 267)) ∷ (69, (0, 268)) ∷
+    (70, (0, 269)) ∷ (71, (0, 270)) ∷ (72, (0, 271)) ∷ [])
+    ((56, 245) ∷ (57, 246) ∷ (58, 247) ∷ (59, 248) ∷ (60, 249) ∷ (61, 250) ∷ (63, 251) ∷ (99, 252) ∷
+    (107, 253) ∷ (108, 254) ∷ (109, 255) ∷ (110, 256) ∷ (111, 257) ∷ (112, 258) ∷ [])
     []
 
 -- after ProgramText ^let ^fun Variable ^(
-abbrev pub state_210 : Row
-state_210 = at
-    ((298, 1, 141809345343678709761) ∷ [])
-    ((10, begin_at 3 301 0 128) ∷ (11, begin_at 4 21 0 2147483776) ∷
-    (12, begin_at 4 20 0 2147483776) ∷ (13, begin_at 5 25 0 7516192896) ∷
-    (14, begin_at 5 24 0 7516192896) ∷ (15, begin_at 6 31 0 7516192896) ∷
-    (17, begin_at 6 30 0 7516192896) ∷ (101, begin_at 1 298 1 17180131328) ∷
-    (102, begin_at 2 299 0 17180131328) ∷ [])
-    ((0, (0, 15)) ∷ (17, (1, 16)) ∷ (19, (1, 17)) ∷ (21, (1, 18)) ∷ (23, (1, 19)) ∷ (38, (0, 20)) ∷
-    (60, (0, 21)) ∷ (61, (0, 22)) ∷ (63, (0, 23)) ∷ (64, (0, 24)) ∷ (65, (0, 25)) ∷ [])
-    ((10, 260) ∷ (11, 9) ∷ (12, 10) ∷ (13, 11) ∷ (14, 12) ∷ (15, 13) ∷ (17, 14) ∷ (101, 261) ∷
-    (102, 262) ∷ [])
+abbrev pub state_221 : Row
+state_221 = at
+    ((310, 1, 9075798085368928272385) ∷ [])
+    ((10, begin_at 3 313 0 128) ∷ (11, begin_at 4 21 0 4294967424) ∷
+    (12, begin_at 4 20 0 4294967424) ∷ (13, begin_at 5 25 0 15032385664) ∷
+    (14, begin_at 5 24 0 15032385664) ∷ (15, begin_at 6 31 0 15032385664) ∷
+    (17, begin_at 6 30 0 15032385664) ∷ (105, begin_at 1 310 1 34360262656) ∷
+    (106, begin_at 2 311 0 34360262656) ∷ [])
+    ((0, (0, 15)) ∷ (18, (1, 16)) ∷ (20, (1, 17)) ∷ (22, (1, 18)) ∷ (24, (1, 19)) ∷ (40, (0, 20)) ∷
+    (66, (0, 21)) ∷ (67, (0, 22)) ∷ (69, (0, 23)) ∷ (70, (0, 24)) ∷ (71, (0, 25)) ∷ [])
+    ((10, 272) ∷ (11, 9) ∷ (12, 10) ∷ (13, 11) ∷ (14, 12) ∷ (15, 13) ∷ (17, 14) ∷ (105, 273) ∷
+    (106, 274) ∷ [])
     []
 
 -- after TypeText Arrow 'where Names 'and Name
-abbrev pub state_211 : Row
-state_211 = at
-    ((14, 3, 1180596125992080442368) ∷ [])
-    []
-    []
-    []
-    ((14, 1180596125992080442368) ∷ [])
-
--- after TypeText Arrow 'where TypeName '= Arrow
-abbrev pub state_212 : Row
-state_212 = at
-    ((15, 3, 1180596125992080442368) ∷ [])
-    []
-    []
-    []
-    ((15, 1180596125992080442368) ∷ [])
-
--- after TypeText ^[ ^( GAlts '| GSeq
-abbrev pub state_213 : Row
-state_213 = at
-    ((96, 3, 2147745792) ∷ [])
-    []
-    []
-    []
-    ((96, 2147745792) ∷ [])
-
--- after TypeText ^[ ^( GAlts '| IItem
-abbrev pub state_214 : Row
-state_214 = at
-    ((97, 3, 2147745792) ∷ (101, 1, 72634055067268153345) ∷ (105, 1, 72634055067268153345) ∷ [])
-    ((17, begin_at 5 112 0 72634055073106624541) ∷ (30, begin_at 1 101 1 72634055067268153345) ∷
-    (31, begin_at 2 84 0 72634055067737915421) ∷ (32, begin_at 3 87 0 72634055067737915421) ∷
-    (38, begin_at 3 86 0 72634055067737915421) ∷ (39, begin_at 4 107 0 72634055073106624541) ∷
-    (40, begin_at 4 106 0 72634055073106624541) ∷ (41, begin_at 5 114 0 72634055073106624541) ∷
-    (93, begin_at 1 105 1 72634055067268153345) ∷ [])
-    ((0, (0, 15)) ∷ (2, (0, 125)) ∷ (3, (0, 126)) ∷ (4, (0, 127)) ∷ (17, (1, 58)) ∷ (19, (1, 17)) ∷
-    (21, (1, 18)) ∷ (23, (1, 19)) ∷ (26, (0, 128)) ∷ (27, (0, 129)) ∷ (28, (0, 130)) ∷
-    (38, (0, 20)) ∷ (60, (0, 21)) ∷ (61, (0, 22)) ∷ (62, (0, 60)) ∷ (63, (0, 23)) ∷ (64, (0, 24)) ∷
-    (65, (0, 25)) ∷ [])
-    ((17, 46) ∷ (30, 183) ∷ (31, 52) ∷ (32, 53) ∷ (38, 54) ∷ (39, 55) ∷ (40, 56) ∷ (41, 57) ∷
-    (93, 184) ∷ [])
-    ((97, 2147745792) ∷ [])
-
--- after TypeText ^[ ^( GSeq '| GSeq
-abbrev pub state_215 : Row
-state_215 = at
-    ((92, 3, 2147745792) ∷ [])
-    []
-    []
-    []
-    ((92, 2147745792) ∷ [])
-
--- after TypeText ^[ ^( GSeq '| IItem
-abbrev pub state_216 : Row
-state_216 = at
-    ((93, 3, 2147745792) ∷ (101, 1, 72634055067268153345) ∷ (105, 1, 72634055067268153345) ∷ [])
-    ((17, begin_at 5 112 0 72634055073106624541) ∷ (30, begin_at 1 101 1 72634055067268153345) ∷
-    (31, begin_at 2 84 0 72634055067737915421) ∷ (32, begin_at 3 87 0 72634055067737915421) ∷
-    (38, begin_at 3 86 0 72634055067737915421) ∷ (39, begin_at 4 107 0 72634055073106624541) ∷
-    (40, begin_at 4 106 0 72634055073106624541) ∷ (41, begin_at 5 114 0 72634055073106624541) ∷
-    (93, begin_at 1 105 1 72634055067268153345) ∷ [])
-    ((0, (0, 15)) ∷ (2, (0, 125)) ∷ (3, (0, 126)) ∷ (4, (0, 127)) ∷ (17, (1, 58)) ∷ (19, (1, 17)) ∷
-    (21, (1, 18)) ∷ (23, (1, 19)) ∷ (26, (0, 128)) ∷ (27, (0, 129)) ∷ (28, (0, 130)) ∷
-    (38, (0, 20)) ∷ (60, (0, 21)) ∷ (61, (0, 22)) ∷ (62, (0, 60)) ∷ (63, (0, 23)) ∷ (64, (0, 24)) ∷
-    (65, (0, 25)) ∷ [])
-    ((17, 46) ∷ (30, 183) ∷ (31, 52) ∷ (32, 53) ∷ (38, 54) ∷ (39, 55) ∷ (40, 56) ∷ (41, 57) ∷
-    (93, 184) ∷ [])
-    ((93, 2147745792) ∷ [])
-
--- after TypeText ^[ ^( IItem '| GSeq
-abbrev pub state_217 : Row
-state_217 = at
-    ((94, 3, 2147745792) ∷ [])
-    []
-    []
-    []
-    ((94, 2147745792) ∷ [])
-
--- after TypeText ^[ ^( IItem '| IItem
-abbrev pub state_218 : Row
-state_218 = at
-    ((101, 1, 72634055067268153345) ∷ (105, 1, 72634055067268153345) ∷ (129, 3, 2251810551365760) ∷
-    [])
-    ((17, begin_at 5 112 0 72634055073106624541) ∷ (30, begin_at 1 101 1 72634055067268153345) ∷
-    (31, begin_at 2 84 0 72634055067737915421) ∷ (32, begin_at 3 87 0 72634055067737915421) ∷
-    (38, begin_at 3 86 0 72634055067737915421) ∷ (39, begin_at 4 107 0 72634055073106624541) ∷
-    (40, begin_at 4 106 0 72634055073106624541) ∷ (41, begin_at 5 114 0 72634055073106624541) ∷
-    (93, begin_at 1 105 1 72634055067268153345) ∷ [])
-    ((0, (0, 15)) ∷ (2, (0, 125)) ∷ (3, (0, 126)) ∷ (4, (0, 127)) ∷ (17, (1, 58)) ∷ (19, (1, 17)) ∷
-    (21, (1, 18)) ∷ (23, (1, 19)) ∷ (26, (0, 128)) ∷ (27, (0, 129)) ∷ (28, (0, 130)) ∷
-    (38, (0, 20)) ∷ (60, (0, 21)) ∷ (61, (0, 22)) ∷ (62, (0, 60)) ∷ (63, (0, 23)) ∷ (64, (0, 24)) ∷
-    (65, (0, 25)) ∷ [])
-    ((17, 46) ∷ (30, 183) ∷ (31, 52) ∷ (32, 53) ∷ (38, 54) ∷ (39, 55) ∷ (40, 56) ∷ (41, 57) ∷
-    (93, 184) ∷ [])
-    ((129, 2251810551365760) ∷ [])
-
--- after TypeText ^[ ^( ITrees ', Tree
-abbrev pub state_219 : Row
-state_219 = at
-    ((118, 3, 8590196736) ∷ [])
-    []
-    []
-    []
-    ((118, 8590196736) ∷ [])
-
--- after TypeText ^[ ^( ITree ', Tree
-abbrev pub state_220 : Row
-state_220 = at
-    ((117, 3, 8590196736) ∷ [])
-    []
-    []
-    []
-    ((117, 8590196736) ∷ [])
-
--- after TypeText ^[ ^( IArrow 'where Names
-abbrev pub state_221 : Row
-state_221 = at
-    ((14, 1, 4503608217567232) ∷ (122, 3, 8590196736) ∷ [])
-    []
-    ((52, (0, 167)) ∷ [])
-    []
-    ((122, 8590196736) ∷ [])
-
--- after TypeText ^[ ^( IUnion ^-> Arrows
 abbrev pub state_222 : Row
 state_222 = at
-    ((126, 3, 2251808403881984) ∷ [])
+    ((14, 3, 75557881748060962882560) ∷ [])
     []
     []
     []
-    ((126, 2251808403881984) ∷ [])
+    ((14, 75557881748060962882560) ∷ [])
 
--- after TypeText ^[ ^( IUnion ^-> Union
+-- after TypeText Arrow 'where TypeName '= Arrow
 abbrev pub state_223 : Row
 state_223 = at
-    ((18, 1, 2251808403881984) ∷ (19, 1, 2251808403881984) ∷ (125, 3, 2251808403881984) ∷ [])
+    ((15, 3, 75557881748060962882560) ∷ [])
+    []
+    []
+    []
+    ((15, 75557881748060962882560) ∷ [])
+
+-- after TypeText ^[ ^( GAlts '| GSeq
+abbrev pub state_224 : Row
+state_224 = at
+    ((100, 3, 4295491584) ∷ [])
+    []
+    []
+    []
+    ((100, 4295491584) ∷ [])
+
+-- after TypeText ^[ ^( GAlts '| IItem
+abbrev pub state_225 : Row
+state_225 = at
+    ((101, 3, 4295491584) ∷ (105, 1, 4648579507678636408833) ∷ (109, 1, 4648579507678636408833) ∷
+    [])
+    ((17, begin_at 5 116 0 4648579507690313351197) ∷ (32, begin_at 1 105 1 4648579507678636408833) ∷
+    (33, begin_at 2 88 0 4648579507679575932957) ∷ (34, begin_at 3 91 0 4648579507679575932957) ∷
+    (40, begin_at 3 90 0 4648579507679575932957) ∷ (41, begin_at 4 111 0 4648579507690313351197) ∷
+    (42, begin_at 4 110 0 4648579507690313351197) ∷ (43, begin_at 5 118 0 4648579507690313351197) ∷
+    (97, begin_at 1 109 1 4648579507678636408833) ∷ [])
+    ((0, (0, 15)) ∷ (2, (0, 131)) ∷ (3, (0, 132)) ∷ (4, (0, 133)) ∷ (18, (1, 58)) ∷ (20, (1, 17)) ∷
+    (22, (1, 18)) ∷ (24, (1, 19)) ∷ (27, (0, 134)) ∷ (28, (0, 135)) ∷ (29, (0, 136)) ∷
+    (40, (0, 20)) ∷ (66, (0, 21)) ∷ (67, (0, 22)) ∷ (68, (0, 60)) ∷ (69, (0, 23)) ∷ (70, (0, 24)) ∷
+    (71, (0, 25)) ∷ [])
+    ((17, 46) ∷ (32, 192) ∷ (33, 52) ∷ (34, 53) ∷ (40, 54) ∷ (41, 55) ∷ (42, 56) ∷ (43, 57) ∷
+    (97, 193) ∷ [])
+    ((101, 4295491584) ∷ [])
+
+-- after TypeText ^[ ^( GSeq '| GSeq
+abbrev pub state_226 : Row
+state_226 = at
+    ((96, 3, 4295491584) ∷ [])
+    []
+    []
+    []
+    ((96, 4295491584) ∷ [])
+
+-- after TypeText ^[ ^( GSeq '| IItem
+abbrev pub state_227 : Row
+state_227 = at
+    ((97, 3, 4295491584) ∷ (105, 1, 4648579507678636408833) ∷ (109, 1, 4648579507678636408833) ∷ [])
+    ((17, begin_at 5 116 0 4648579507690313351197) ∷ (32, begin_at 1 105 1 4648579507678636408833) ∷
+    (33, begin_at 2 88 0 4648579507679575932957) ∷ (34, begin_at 3 91 0 4648579507679575932957) ∷
+    (40, begin_at 3 90 0 4648579507679575932957) ∷ (41, begin_at 4 111 0 4648579507690313351197) ∷
+    (42, begin_at 4 110 0 4648579507690313351197) ∷ (43, begin_at 5 118 0 4648579507690313351197) ∷
+    (97, begin_at 1 109 1 4648579507678636408833) ∷ [])
+    ((0, (0, 15)) ∷ (2, (0, 131)) ∷ (3, (0, 132)) ∷ (4, (0, 133)) ∷ (18, (1, 58)) ∷ (20, (1, 17)) ∷
+    (22, (1, 18)) ∷ (24, (1, 19)) ∷ (27, (0, 134)) ∷ (28, (0, 135)) ∷ (29, (0, 136)) ∷
+    (40, (0, 20)) ∷ (66, (0, 21)) ∷ (67, (0, 22)) ∷ (68, (0, 60)) ∷ (69, (0, 23)) ∷ (70, (0, 24)) ∷
+    (71, (0, 25)) ∷ [])
+    ((17, 46) ∷ (32, 192) ∷ (33, 52) ∷ (34, 53) ∷ (40, 54) ∷ (41, 55) ∷ (42, 56) ∷ (43, 57) ∷
+    (97, 193) ∷ [])
+    ((97, 4295491584) ∷ [])
+
+-- after TypeText ^[ ^( IItem '| GSeq
+abbrev pub state_228 : Row
+state_228 = at
+    ((98, 3, 4295491584) ∷ [])
+    []
+    []
+    []
+    ((98, 4295491584) ∷ [])
+
+-- after TypeText ^[ ^( IItem '| IItem
+abbrev pub state_229 : Row
+state_229 = at
+    ((105, 1, 4648579507678636408833) ∷ (109, 1, 4648579507678636408833) ∷
+    (133, 3, 9007220730101888) ∷ [])
+    ((17, begin_at 5 116 0 4648579507690313351197) ∷ (32, begin_at 1 105 1 4648579507678636408833) ∷
+    (33, begin_at 2 88 0 4648579507679575932957) ∷ (34, begin_at 3 91 0 4648579507679575932957) ∷
+    (40, begin_at 3 90 0 4648579507679575932957) ∷ (41, begin_at 4 111 0 4648579507690313351197) ∷
+    (42, begin_at 4 110 0 4648579507690313351197) ∷ (43, begin_at 5 118 0 4648579507690313351197) ∷
+    (97, begin_at 1 109 1 4648579507678636408833) ∷ [])
+    ((0, (0, 15)) ∷ (2, (0, 131)) ∷ (3, (0, 132)) ∷ (4, (0, 133)) ∷ (18, (1, 58)) ∷ (20, (1, 17)) ∷
+    (22, (1, 18)) ∷ (24, (1, 19)) ∷ (27, (0, 134)) ∷ (28, (0, 135)) ∷ (29, (0, 136)) ∷
+    (40, (0, 20)) ∷ (66, (0, 21)) ∷ (67, (0, 22)) ∷ (68, (0, 60)) ∷ (69, (0, 23)) ∷ (70, (0, 24)) ∷
+    (71, (0, 25)) ∷ [])
+    ((17, 46) ∷ (32, 192) ∷ (33, 52) ∷ (34, 53) ∷ (40, 54) ∷ (41, 55) ∷ (42, 56) ∷ (43, 57) ∷
+    (97, 193) ∷ [])
+    ((133, 9007220730101888) ∷ [])
+
+-- after TypeText ^[ ^( ITrees ', Tree
+abbrev pub state_230 : Row
+state_230 = at
+    ((122, 3, 17180393472) ∷ [])
+    []
+    []
+    []
+    ((122, 17180393472) ∷ [])
+
+-- after TypeText ^[ ^( ITree ', Tree
+abbrev pub state_231 : Row
+state_231 = at
+    ((121, 3, 17180393472) ∷ [])
+    []
+    []
+    []
+    ((121, 17180393472) ∷ [])
+
+-- after TypeText ^[ ^( IArrow 'where Names
+abbrev pub state_232 : Row
+state_232 = at
+    ((14, 1, 18014415689875456) ∷ (126, 3, 17180393472) ∷ [])
+    []
+    ((54, (0, 176)) ∷ [])
+    []
+    ((126, 17180393472) ∷ [])
+
+-- after TypeText ^[ ^( IUnion ^-> Arrows
+abbrev pub state_233 : Row
+state_233 = at
+    ((130, 3, 9007216435134464) ∷ [])
+    []
+    []
+    []
+    ((130, 9007216435134464) ∷ [])
+
+-- after TypeText ^[ ^( IUnion ^-> Union
+abbrev pub state_234 : Row
+state_234 = at
+    ((18, 1, 9007216435134464) ∷ (19, 1, 9007216435134464) ∷ (129, 3, 9007216435134464) ∷ [])
     []
     ((7, (1, 36)) ∷ [])
     []
-    ((125, 2251808403881984) ∷ [])
+    ((129, 9007216435134464) ∷ [])
 
 -- after TypeText ^[ ^( IUnion 'where Names
-abbrev pub state_224 : Row
-state_224 = at
-    ((14, 1, 4503608217567232) ∷ (123, 3, 8590196736) ∷ [])
+abbrev pub state_235 : Row
+state_235 = at
+    ((14, 1, 18014415689875456) ∷ (127, 3, 17180393472) ∷ [])
     []
-    ((52, (0, 167)) ∷ [])
+    ((54, (0, 176)) ∷ [])
     []
-    ((123, 8590196736) ∷ [])
+    ((127, 17180393472) ∷ [])
 
 -- after TypeText ^[ ^( IAlts '| GSeq
-abbrev pub state_225 : Row
-state_225 = at
-    ((95, 3, 2147745792) ∷ [])
+abbrev pub state_236 : Row
+state_236 = at
+    ((99, 3, 4295491584) ∷ [])
     []
     []
     []
-    ((95, 2147745792) ∷ [])
+    ((99, 4295491584) ∷ [])
 
 -- after TypeText ^[ ^( IAlts '| IItem
-abbrev pub state_226 : Row
-state_226 = at
-    ((101, 1, 72634055067268153345) ∷ (105, 1, 72634055067268153345) ∷ (130, 3, 2251810551365760) ∷
-    [])
-    ((17, begin_at 5 112 0 72634055073106624541) ∷ (30, begin_at 1 101 1 72634055067268153345) ∷
-    (31, begin_at 2 84 0 72634055067737915421) ∷ (32, begin_at 3 87 0 72634055067737915421) ∷
-    (38, begin_at 3 86 0 72634055067737915421) ∷ (39, begin_at 4 107 0 72634055073106624541) ∷
-    (40, begin_at 4 106 0 72634055073106624541) ∷ (41, begin_at 5 114 0 72634055073106624541) ∷
-    (93, begin_at 1 105 1 72634055067268153345) ∷ [])
-    ((0, (0, 15)) ∷ (2, (0, 125)) ∷ (3, (0, 126)) ∷ (4, (0, 127)) ∷ (17, (1, 58)) ∷ (19, (1, 17)) ∷
-    (21, (1, 18)) ∷ (23, (1, 19)) ∷ (26, (0, 128)) ∷ (27, (0, 129)) ∷ (28, (0, 130)) ∷
-    (38, (0, 20)) ∷ (60, (0, 21)) ∷ (61, (0, 22)) ∷ (62, (0, 60)) ∷ (63, (0, 23)) ∷ (64, (0, 24)) ∷
-    (65, (0, 25)) ∷ [])
-    ((17, 46) ∷ (30, 183) ∷ (31, 52) ∷ (32, 53) ∷ (38, 54) ∷ (39, 55) ∷ (40, 56) ∷ (41, 57) ∷
-    (93, 184) ∷ [])
-    ((130, 2251810551365760) ∷ [])
+abbrev pub state_237 : Row
+state_237 = at
+    ((105, 1, 4648579507678636408833) ∷ (109, 1, 4648579507678636408833) ∷
+    (134, 3, 9007220730101888) ∷ [])
+    ((17, begin_at 5 116 0 4648579507690313351197) ∷ (32, begin_at 1 105 1 4648579507678636408833) ∷
+    (33, begin_at 2 88 0 4648579507679575932957) ∷ (34, begin_at 3 91 0 4648579507679575932957) ∷
+    (40, begin_at 3 90 0 4648579507679575932957) ∷ (41, begin_at 4 111 0 4648579507690313351197) ∷
+    (42, begin_at 4 110 0 4648579507690313351197) ∷ (43, begin_at 5 118 0 4648579507690313351197) ∷
+    (97, begin_at 1 109 1 4648579507678636408833) ∷ [])
+    ((0, (0, 15)) ∷ (2, (0, 131)) ∷ (3, (0, 132)) ∷ (4, (0, 133)) ∷ (18, (1, 58)) ∷ (20, (1, 17)) ∷
+    (22, (1, 18)) ∷ (24, (1, 19)) ∷ (27, (0, 134)) ∷ (28, (0, 135)) ∷ (29, (0, 136)) ∷
+    (40, (0, 20)) ∷ (66, (0, 21)) ∷ (67, (0, 22)) ∷ (68, (0, 60)) ∷ (69, (0, 23)) ∷ (70, (0, 24)) ∷
+    (71, (0, 25)) ∷ [])
+    ((17, 46) ∷ (32, 192) ∷ (33, 52) ∷ (34, 53) ∷ (40, 54) ∷ (41, 55) ∷ (42, 56) ∷ (43, 57) ∷
+    (97, 193) ∷ [])
+    ((134, 9007220730101888) ∷ [])
 
 -- after TypeText ^< Tag Attrs '> Simple
-abbrev pub state_227 : Row
-state_227 = at
-    ((51, 5, 1328165573065999058077) ∷ [])
+abbrev pub state_238 : Row
+state_238 = at
+    ((51, 5, 85002596690621680649373) ∷ [])
     []
     []
     []
-    ((51, 1328165573065999058077) ∷ [])
+    ((51, 85002596690621680649373) ∷ [])
+
+-- after TypeText ^< Tag AttrList '; AttrOthers
+abbrev pub state_239 : Row
+state_239 = at
+    ((72, 3, 33554432) ∷ [])
+    []
+    []
+    []
+    ((72, 33554432) ∷ [])
 
 -- after TypeText ^< Tag AttrList '; Attr
-abbrev pub state_228 : Row
-state_228 = at
-    ((73, 3, 111833385414304990208) ∷ [])
+abbrev pub state_240 : Row
+state_240 = at
+    ((77, 3, 7157336699534187693056) ∷ [])
     []
     []
     []
-    ((73, 111833385414304990208) ∷ [])
-
--- after TypeText ^< Tag AttrList '; '..
-abbrev pub state_229 : Row
-state_229 = at
-    ((70, 3, 16777216) ∷ [])
-    []
-    []
-    []
-    ((70, 16777216) ∷ [])
+    ((77, 7157336699534187693056) ∷ [])
 
 -- after TypeText ^< Tag Label '=? Simple
-abbrev pub state_230 : Row
-state_230 = at
-    ((75, 3, 111833385414304990208) ∷ [])
+abbrev pub state_241 : Row
+state_241 = at
+    ((79, 3, 7157336699534187693056) ∷ [])
     []
     []
     []
-    ((75, 111833385414304990208) ∷ [])
+    ((79, 7157336699534187693056) ∷ [])
 
 -- after TypeText ^< Tag Label '= Simple
-abbrev pub state_231 : Row
-state_231 = at
-    ((74, 3, 111833385414304990208) ∷ [])
+abbrev pub state_242 : Row
+state_242 = at
+    ((78, 3, 7157336699534187693056) ∷ [])
     []
     []
     []
-    ((74, 111833385414304990208) ∷ [])
+    ((78, 7157336699534187693056) ∷ [])
 
 -- after TypeText ^< Tag ^( Tree ')
-abbrev pub state_232 : Row
-state_232 = at
-    ((65, 3, 16777216) ∷ [])
+abbrev pub state_243 : Row
+state_243 = at
+    ((67, 3, 33554432) ∷ [])
     []
     []
     []
-    ((65, 16777216) ∷ [])
+    ((67, 33554432) ∷ [])
+
+-- after TypeText ^< Tag '_ '=? Simple
+abbrev pub state_244 : Row
+state_244 = at
+    ((74, 3, 33554432) ∷ [])
+    []
+    []
+    []
+    ((74, 33554432) ∷ [])
 
 -- after ProgramText ^let ^fun Variable Interface Union'
-abbrev pub state_233 : Row
-state_233 = at
-    ((309, 1, 2147483648) ∷ (310, 1, 1180591855488918159360) ∷ [])
+abbrev pub state_245 : Row
+state_245 = at
+    ((321, 1, 4294967296) ∷ (322, 1, 75594758153096221229056) ∷ [])
     []
-    ((7, (1, 263)) ∷ [])
+    ((7, (1, 275)) ∷ [])
     []
     []
 
 -- after ProgramText ^let ^fun Variable Interface Meets'
-abbrev pub state_234 : Row
-state_234 = at
-    ((141, 1, 6755425248871552) ∷ (143, 1, 6755427396355200) ∷ [])
+abbrev pub state_246 : Row
+state_246 = at
+    ((145, 1, 27040341077525632) ∷ (147, 1, 27040345372492928) ∷ [])
     []
-    ((31, (0, 264)) ∷ [])
+    ((32, (0, 276)) ∷ [])
     []
-    ((141, 6755425248871552) ∷ [])
+    ((145, 27040341077525632) ∷ [])
 
 -- after ProgramText ^let ^fun Variable Interface Meet'
-abbrev pub state_235 : Row
-state_235 = at
-    ((140, 1, 6755425248871552) ∷ (142, 1, 6755427396355200) ∷ [])
+abbrev pub state_247 : Row
+state_247 = at
+    ((144, 1, 27040341077525632) ∷ (146, 1, 27040345372492928) ∷ [])
     []
-    ((31, (0, 265)) ∷ [])
+    ((32, (0, 277)) ∷ [])
     []
-    ((140, 6755425248871552) ∷ [])
+    ((144, 27040341077525632) ∷ [])
 
 -- after ProgramText ^let ^fun Variable Interface Signs'
-abbrev pub state_236 : Row
-state_236 = at
-    ((145, 1, 6755427396355200) ∷ (148, 1, 6755432765064320) ∷ (149, 1, 6755432765064320) ∷ [])
+abbrev pub state_248 : Row
+state_248 = at
+    ((149, 1, 27040345372492928) ∷ (152, 1, 27040356109911168) ∷ (153, 1, 27040356109911168) ∷ [])
     []
-    ((30, (0, 266)) ∷ (32, (0, 267)) ∷ [])
+    ((31, (0, 278)) ∷ (33, (0, 279)) ∷ [])
     []
-    ((145, 6755427396355200) ∷ [])
+    ((149, 27040345372492928) ∷ [])
 
 -- after ProgramText ^let ^fun Variable Interface Simple'
-abbrev pub state_237 : Row
-state_237 = at
-    ((144, 1, 6755427396355200) ∷ (146, 1, 6755432765064320) ∷ (147, 1, 6755432765064320) ∷ [])
+abbrev pub state_249 : Row
+state_249 = at
+    ((148, 1, 27040345372492928) ∷ (150, 1, 27040356109911168) ∷ (151, 1, 27040356109911168) ∷ [])
     []
-    ((30, (0, 268)) ∷ (32, (0, 269)) ∷ [])
+    ((31, (0, 280)) ∷ (33, (0, 281)) ∷ [])
     []
-    ((144, 6755427396355200) ∷ [])
+    ((148, 27040345372492928) ∷ [])
 
 -- after ProgramText ^let ^fun Variable Interface Paren'
-abbrev pub state_238 : Row
-state_238 = at
-    ((151, 1, 147573952348621243549) ∷ [])
+abbrev pub state_250 : Row
+state_250 = at
+    ((155, 1, 9444732964707424273565) ∷ [])
     []
     []
     []
-    ((151, 147573952348621243549) ∷ [])
+    ((155, 9444732964707424273565) ∷ [])
 
 -- after ProgramText ^let ^fun Variable Interface Bare'
-abbrev pub state_239 : Row
-state_239 = at
-    ((150, 1, 147573952348621243549) ∷ [])
+abbrev pub state_251 : Row
+state_251 = at
+    ((154, 1, 9444732964707424273565) ∷ [])
     []
     []
     []
-    ((150, 147573952348621243549) ∷ [])
+    ((154, 9444732964707424273565) ∷ [])
 
 -- after ProgramText ^let ^fun Variable Interface Default
-abbrev pub state_240 : Row
-state_240 = at
-    ((281, 1, 147573952348621243549) ∷ [])
+abbrev pub state_252 : Row
+state_252 = at
+    ((293, 1, 9444732964707424273565) ∷ [])
     []
     []
     []
-    ((281, 147573952348621243549) ∷ [])
+    ((293, 9444732964707424273565) ∷ [])
 
 -- after ProgramText ^let ^fun Variable Interface Branches
-abbrev pub state_241 : Row
-state_241 = at
-    ((297, 5, 1180591622366678810624) ∷ [])
+abbrev pub state_253 : Row
+state_253 = at
+    ((309, 5, 75557863732511393251328) ∷ [])
     []
     []
     []
-    ((297, 1180591622366678810624) ∷ [])
+    ((309, 75557863732511393251328) ∷ [])
 
 -- after ProgramText ^let ^fun Variable Interface Rest
-abbrev pub state_242 : Row
-state_242 = at
-    ((302, 1, 1180591855488918159360) ∷ [])
+abbrev pub state_254 : Row
+state_254 = at
+    ((314, 1, 75594758153096221229056) ∷ [])
     []
     []
     []
-    ((302, 1180591855488918159360) ∷ [])
+    ((314, 75594758153096221229056) ∷ [])
 
 -- after ProgramText ^let ^fun Variable Interface Closed
-abbrev pub state_243 : Row
-state_243 = at
-    ((305, 1, 1180591855488918159360) ∷ (307, 1, 141809345341531226113) ∷ [])
-    ((54, begin_at 2 310 0 128) ∷ (55, begin_at 3 141 0 2147483776) ∷
-    (56, begin_at 3 140 0 2147483776) ∷ (57, begin_at 4 145 0 7516192896) ∷
-    (58, begin_at 4 144 0 7516192896) ∷ (59, begin_at 5 151 0 7516192896) ∷
-    (61, begin_at 5 150 0 7516192896) ∷ (95, begin_at 6 281 0 7516192896) ∷
-    (106, begin_at 1 307 1 141809345341531226113) ∷ (107, begin_at 2 308 0 2147483648) ∷
-    (108, begin_at 1 305 1 1180591855488918159360) ∷ [])
-    ((0, (0, 247)) ∷ (17, (1, 248)) ∷ (19, (1, 249)) ∷ (21, (1, 250)) ∷ (23, (1, 251)) ∷
-    (38, (0, 253)) ∷ (60, (0, 254)) ∷ (61, (0, 255)) ∷ (63, (0, 256)) ∷ (64, (0, 257)) ∷
-    (65, (0, 258)) ∷ (66, (0, 259)) ∷ [])
-    ((54, 233) ∷ (55, 234) ∷ (56, 235) ∷ (57, 236) ∷ (58, 237) ∷ (59, 238) ∷ (61, 239) ∷ (95, 240) ∷
-    (106, 270) ∷ (107, 245) ∷ (108, 271) ∷ [])
+abbrev pub state_255 : Row
+state_255 = at
+    ((317, 1, 75594758153096221229056) ∷ (319, 1, 9075798085364633305089) ∷ [])
+    ((56, begin_at 2 322 0 128) ∷ (57, begin_at 3 145 0 4294967424) ∷
+    (58, begin_at 3 144 0 4294967424) ∷ (59, begin_at 4 149 0 15032385664) ∷
+    (60, begin_at 4 148 0 15032385664) ∷ (61, begin_at 5 155 0 15032385664) ∷
+    (63, begin_at 5 154 0 15032385664) ∷ (99, begin_at 6 293 0 15032385664) ∷
+    (110, begin_at 1 319 1 9075798085364633305089) ∷ (111, begin_at 2 320 0 4294967296) ∷
+    (112, begin_at 1 317 1 75594758153096221229056) ∷ [])
+    ((0, (0, 259)) ∷ (18, (1, 260)) ∷ (20, (1, 261)) ∷ (22, (1, 262)) ∷ (24, (1, 263)) ∷
+    (40, (0, 265)) ∷ (66, (0, 266)) ∷ (67, (0, 267)) ∷ (69, (0, 268)) ∷ (70, (0, 269)) ∷
+    (71, (0, 270)) ∷ (72, (0, 271)) ∷ [])
+    ((56, 245) ∷ (57, 246) ∷ (58, 247) ∷ (59, 248) ∷ (60, 249) ∷ (61, 250) ∷ (63, 251) ∷ (99, 252) ∷
+    (110, 282) ∷ (111, 257) ∷ (112, 283) ∷ [])
     []
 
 -- after ProgramText ^let ^fun Variable Interface Full
-abbrev pub state_244 : Row
-state_244 = at
-    ((306, 1, 141809345341531226113) ∷ [])
+abbrev pub state_256 : Row
+state_256 = at
+    ((318, 1, 9075798085364633305089) ∷ [])
     []
     []
     []
-    ((306, 141809345341531226113) ∷ [])
+    ((318, 9075798085364633305089) ∷ [])
 
 -- after ProgramText ^let ^fun Variable Interface Branch
-abbrev pub state_245 : Row
-state_245 = at
-    ((308, 1, 141809345341531226113) ∷ [])
+abbrev pub state_257 : Row
+state_257 = at
+    ((320, 1, 9075798085364633305089) ∷ [])
     []
-    ((31, (0, 272)) ∷ [])
+    ((32, (0, 284)) ∷ [])
     []
     []
 
 -- after ProgramText ^let ^fun Variable Interface Last
-abbrev pub state_246 : Row
-state_246 = at
-    ((304, 1, 1180591855488918159360) ∷ [])
+abbrev pub state_258 : Row
+state_258 = at
+    ((316, 1, 75594758153096221229056) ∷ [])
     []
     []
     []
-    ((304, 1180591855488918159360) ∷ [])
+    ((316, 75594758153096221229056) ∷ [])
 
 -- after ProgramText ^let ^fun Variable Interface '*--
-abbrev pub state_247 : Row
-state_247 = at
-    ((159, 1, 147573952348621243549) ∷ [])
+abbrev pub state_259 : Row
+state_259 = at
+    ((163, 1, 9444732964707424273565) ∷ [])
     []
-    ((60, (0, 273)) ∷ [])
+    ((66, (0, 285)) ∷ [])
     []
     []
 
 -- after ProgramText ^let ^fun Variable Interface ^(
-abbrev pub state_248 : Row
-state_248 = at
-    ((152, 1, 147573952348621243549) ∷ (153, 1, 147573952348621243549) ∷
-    (283, 1, 147573952348621243549) ∷ [])
-    ((49, begin_at 1 152 1 8590196736) ∷ (52, begin_at 2 131 0 2251808403881984) ∷
-    (53, begin_at 3 137 0 2251808403881984) ∷ (54, begin_at 3 136 0 2251808403882112) ∷
-    (55, begin_at 4 141 0 2251810551365760) ∷ (56, begin_at 4 140 0 2251810551365760) ∷
-    (57, begin_at 5 145 0 2251815920074880) ∷ (58, begin_at 5 144 0 2251815920074880) ∷
-    (59, begin_at 6 151 0 2251815920074880) ∷ (60, begin_at 1 153 1 8590196736) ∷
-    (61, begin_at 6 150 0 2251815920074880) ∷ (95, begin_at 7 281 0 2251815920074880) ∷ [])
-    ((0, (0, 247)) ∷ (17, (1, 248)) ∷ (19, (1, 249)) ∷ (21, (1, 250)) ∷ (23, (1, 251)) ∷
-    (38, (0, 253)) ∷ (60, (0, 254)) ∷ (61, (0, 255)) ∷ (63, (0, 256)) ∷ (64, (0, 257)) ∷
-    (65, (0, 258)) ∷ (66, (0, 279)) ∷ [])
-    ((49, 274) ∷ (52, 275) ∷ (53, 276) ∷ (54, 277) ∷ (55, 234) ∷ (56, 235) ∷ (57, 236) ∷ (58, 237) ∷
-    (59, 238) ∷ (60, 278) ∷ (61, 239) ∷ (95, 240) ∷ [])
+abbrev pub state_260 : Row
+state_260 = at
+    ((156, 1, 9444732964707424273565) ∷ (157, 1, 9444732964707424273565) ∷
+    (295, 1, 9444732964707424273565) ∷ [])
+    ((51, begin_at 1 156 1 17180393472) ∷ (54, begin_at 2 135 0 9007216435134464) ∷
+    (55, begin_at 3 141 0 9007216435134464) ∷ (56, begin_at 3 140 0 9007216435134592) ∷
+    (57, begin_at 4 145 0 9007220730101888) ∷ (58, begin_at 4 144 0 9007220730101888) ∷
+    (59, begin_at 5 149 0 9007231467520128) ∷ (60, begin_at 5 148 0 9007231467520128) ∷
+    (61, begin_at 6 155 0 9007231467520128) ∷ (62, begin_at 1 157 1 17180393472) ∷
+    (63, begin_at 6 154 0 9007231467520128) ∷ (99, begin_at 7 293 0 9007231467520128) ∷ [])
+    ((0, (0, 259)) ∷ (18, (1, 260)) ∷ (20, (1, 261)) ∷ (22, (1, 262)) ∷ (24, (1, 263)) ∷
+    (40, (0, 265)) ∷ (66, (0, 266)) ∷ (67, (0, 267)) ∷ (69, (0, 268)) ∷ (70, (0, 269)) ∷
+    (71, (0, 270)) ∷ (72, (0, 291)) ∷ [])
+    ((51, 286) ∷ (54, 287) ∷ (55, 288) ∷ (56, 289) ∷ (57, 246) ∷ (58, 247) ∷ (59, 248) ∷ (60, 249) ∷
+    (61, 250) ∷ (62, 290) ∷ (63, 251) ∷ (99, 252) ∷ [])
     []
 
 -- after ProgramText ^let ^fun Variable Interface ^[
-abbrev pub state_249 : Row
-state_249 = at
-    ((168, 1, 147573952348621243549) ∷ (169, 1, 147573952348621243549) ∷ [])
-    ((61, begin_at 7 232 0 146421031367945617437) ∷ (70, begin_at 1 169 1 1048576) ∷
-    (71, begin_at 2 197 0 2148532224) ∷ (72, begin_at 2 196 0 2148532224) ∷
-    (73, begin_at 3 201 0 146421031362107146241) ∷ (74, begin_at 3 200 0 146421031362107146241) ∷
-    (75, begin_at 4 204 0 146421031362576908317) ∷ (76, begin_at 5 207 0 146421031362576908317) ∷
-    (82, begin_at 5 206 0 146421031362576908317) ∷ (83, begin_at 6 227 0 146421031367945617437) ∷
-    (84, begin_at 6 226 0 146421031367945617437) ∷ (85, begin_at 7 234 0 146421031367945617437) ∷
-    (95, begin_at 8 282 0 146421031367945617437) ∷ [])
-    ((0, (0, 247)) ∷ (17, (1, 293)) ∷ (19, (1, 249)) ∷ (20, (0, 294)) ∷ (21, (1, 250)) ∷
-    (23, (1, 251)) ∷ (38, (0, 253)) ∷ (60, (0, 254)) ∷ (61, (0, 255)) ∷ (62, (0, 295)) ∷
-    (63, (0, 256)) ∷ (64, (0, 257)) ∷ (65, (0, 258)) ∷ (66, (0, 296)) ∷ [])
-    ((61, 280) ∷ (70, 281) ∷ (71, 282) ∷ (72, 283) ∷ (73, 284) ∷ (74, 285) ∷ (75, 286) ∷ (76, 287) ∷
-    (82, 288) ∷ (83, 289) ∷ (84, 290) ∷ (85, 291) ∷ (95, 292) ∷ [])
+abbrev pub state_261 : Row
+state_261 = at
+    ((172, 1, 9444732964707424273565) ∷ (173, 1, 9444732964707424273565) ∷ [])
+    ((63, begin_at 7 240 0 9370945990559960137757) ∷ (74, begin_at 1 173 1 2097152) ∷
+    (75, begin_at 2 205 0 4297064448) ∷ (76, begin_at 2 204 0 4297064448) ∷
+    (77, begin_at 3 209 0 9370945990548283195393) ∷ (78, begin_at 3 208 0 9370945990548283195393) ∷
+    (79, begin_at 4 212 0 9370945990549222719517) ∷ (80, begin_at 5 215 0 9370945990549222719517) ∷
+    (86, begin_at 5 214 0 9370945990549222719517) ∷ (87, begin_at 6 235 0 9370945990559960137757) ∷
+    (88, begin_at 6 234 0 9370945990559960137757) ∷ (89, begin_at 7 242 0 9370945990559960137757) ∷
+    (99, begin_at 8 294 0 9370945990559960137757) ∷ [])
+    ((0, (0, 259)) ∷ (18, (1, 305)) ∷ (20, (1, 261)) ∷ (21, (0, 306)) ∷ (22, (1, 262)) ∷
+    (24, (1, 263)) ∷ (40, (0, 265)) ∷ (66, (0, 266)) ∷ (67, (0, 267)) ∷ (68, (0, 307)) ∷
+    (69, (0, 268)) ∷ (70, (0, 269)) ∷ (71, (0, 270)) ∷ (72, (0, 308)) ∷ [])
+    ((63, 292) ∷ (74, 293) ∷ (75, 294) ∷ (76, 295) ∷ (77, 296) ∷ (78, 297) ∷ (79, 298) ∷ (80, 299) ∷
+    (86, 300) ∷ (87, 301) ∷ (88, 302) ∷ (89, 303) ∷ (99, 304) ∷ [])
     []
 
 -- after ProgramText ^let ^fun Variable Interface ^{
-abbrev pub state_250 : Row
-state_250 = at
-    ((166, 1, 147573952348621243549) ∷ (167, 1, 147573952348621243549) ∷ [])
-    ((62, begin_at 1 167 1 4194304) ∷ (63, begin_at 2 172 0 17184064512) ∷
-    (64, begin_at 3 177 0 17184064512) ∷ (94, begin_at 4 179 0 33554464) ∷ [])
-    ((10, (0, 301)) ∷ (22, (0, 302)) ∷ (39, (0, 67)) ∷ (40, (0, 68)) ∷ (41, (0, 69)) ∷
-    (42, (0, 70)) ∷ (43, (0, 71)) ∷ (44, (0, 72)) ∷ (45, (0, 73)) ∷ (46, (0, 74)) ∷ (47, (0, 75)) ∷
-    (48, (0, 76)) ∷ (49, (0, 77)) ∷ (50, (0, 78)) ∷ (51, (0, 79)) ∷ (52, (0, 80)) ∷ (53, (0, 81)) ∷
-    (54, (0, 82)) ∷ (55, (0, 83)) ∷ (56, (0, 84)) ∷ (57, (0, 85)) ∷ (58, (0, 86)) ∷ (59, (0, 87)) ∷
-    (65, (0, 88)) ∷ (66, (0, 89)) ∷ [])
-    ((62, 297) ∷ (63, 298) ∷ (64, 299) ∷ (94, 300) ∷ [])
+abbrev pub state_262 : Row
+state_262 = at
+    ((170, 1, 9444732964707424273565) ∷ (171, 1, 9444732964707424273565) ∷ [])
+    ((64, begin_at 1 171 1 8388608) ∷ (65, begin_at 2 178 0 8388608) ∷
+    (66, begin_at 2 176 0 1133879755776) ∷ (67, begin_at 3 183 0 1133879755776) ∷
+    (98, begin_at 4 185 0 67108896) ∷ [])
+    ((10, (0, 314)) ∷ (23, (0, 315)) ∷ (40, (0, 316)) ∷ (41, (0, 69)) ∷ (42, (0, 70)) ∷
+    (43, (0, 71)) ∷ (44, (0, 72)) ∷ (45, (0, 73)) ∷ (46, (0, 74)) ∷ (47, (0, 75)) ∷ (48, (0, 76)) ∷
+    (49, (0, 77)) ∷ (50, (0, 78)) ∷ (51, (0, 79)) ∷ (52, (0, 80)) ∷ (53, (0, 81)) ∷ (54, (0, 82)) ∷
+    (55, (0, 83)) ∷ (56, (0, 84)) ∷ (57, (0, 85)) ∷ (58, (0, 86)) ∷ (59, (0, 87)) ∷ (60, (0, 88)) ∷
+    (61, (0, 89)) ∷ (62, (0, 90)) ∷ (63, (0, 91)) ∷ (64, (0, 92)) ∷ (65, (0, 93)) ∷ (71, (0, 94)) ∷
+    (72, (0, 95)) ∷ [])
+    ((64, 309) ∷ (65, 310) ∷ (66, 311) ∷ (67, 312) ∷ (98, 313) ∷ [])
     []
 
 -- after ProgramText ^let ^fun Variable Interface ^<
-abbrev pub state_251 : Row
-state_251 = at
-    ((170, 1, 147573952348621243549) ∷ (171, 1, 147573952348621243549) ∷ [])
-    ((65, begin_at 1 170 1 111833385397125252096) ∷ (94, begin_at 2 181 0 111833385397125252096) ∷
+abbrev pub state_263 : Row
+state_263 = at
+    ((174, 1, 9444732964707424273565) ∷ (175, 1, 9444732964707424273565) ∷ [])
+    ((68, begin_at 1 174 1 7157336699499828216832) ∷ (98, begin_at 2 187 0 7157336699499828216832) ∷
     [])
-    ((17, (1, 305)) ∷ (38, (0, 306)) ∷ (39, (0, 67)) ∷ (40, (0, 68)) ∷ (41, (0, 69)) ∷
-    (42, (0, 70)) ∷ (43, (0, 71)) ∷ (44, (0, 72)) ∷ (45, (0, 73)) ∷ (46, (0, 74)) ∷ (47, (0, 75)) ∷
-    (48, (0, 76)) ∷ (49, (0, 77)) ∷ (50, (0, 78)) ∷ (51, (0, 79)) ∷ (52, (0, 80)) ∷ (53, (0, 81)) ∷
-    (54, (0, 82)) ∷ (55, (0, 83)) ∷ (56, (0, 84)) ∷ (57, (0, 85)) ∷ (58, (0, 86)) ∷ (59, (0, 87)) ∷
-    (65, (0, 88)) ∷ (66, (0, 89)) ∷ [])
-    ((65, 303) ∷ (94, 304) ∷ [])
+    ((18, (1, 319)) ∷ (40, (0, 320)) ∷ (41, (0, 69)) ∷ (42, (0, 70)) ∷ (43, (0, 71)) ∷
+    (44, (0, 72)) ∷ (45, (0, 73)) ∷ (46, (0, 74)) ∷ (47, (0, 75)) ∷ (48, (0, 76)) ∷ (49, (0, 77)) ∷
+    (50, (0, 78)) ∷ (51, (0, 79)) ∷ (52, (0, 80)) ∷ (53, (0, 81)) ∷ (54, (0, 82)) ∷ (55, (0, 83)) ∷
+    (56, (0, 84)) ∷ (57, (0, 85)) ∷ (58, (0, 86)) ∷ (59, (0, 87)) ∷ (60, (0, 88)) ∷ (61, (0, 89)) ∷
+    (62, (0, 90)) ∷ (63, (0, 91)) ∷ (64, (0, 92)) ∷ (65, (0, 93)) ∷ (71, (0, 94)) ∷ (72, (0, 95)) ∷
+    [])
+    ((68, 317) ∷ (98, 318) ∷ [])
     []
 
 -- after ProgramText ^let ^fun Variable Interface '|
-abbrev pub state_252 : Row
-state_252 = at
-    ((303, 1, 1180591855488918159360) ∷ [])
-    ((54, begin_at 3 310 0 128) ∷ (55, begin_at 4 141 0 2147483776) ∷
-    (56, begin_at 4 140 0 2147483776) ∷ (57, begin_at 5 145 0 7516192896) ∷
-    (58, begin_at 5 144 0 7516192896) ∷ (59, begin_at 6 151 0 7516192896) ∷
-    (61, begin_at 6 150 0 7516192896) ∷ (95, begin_at 7 281 0 7516192896) ∷
-    (104, begin_at 1 303 1 1180591855488918159360) ∷ (105, begin_at 2 305 0 141809345341531226113) ∷
-    (106, begin_at 3 306 0 141809345341531226113) ∷ (107, begin_at 4 308 0 2147483648) ∷
-    (108, begin_at 2 304 0 1180591855488918159360) ∷ [])
-    ((0, (0, 247)) ∷ (17, (1, 248)) ∷ (19, (1, 249)) ∷ (21, (1, 250)) ∷ (23, (1, 251)) ∷
-    (38, (0, 253)) ∷ (60, (0, 254)) ∷ (61, (0, 255)) ∷ (63, (0, 256)) ∷ (64, (0, 257)) ∷
-    (65, (0, 258)) ∷ (66, (0, 259)) ∷ [])
-    ((54, 233) ∷ (55, 234) ∷ (56, 235) ∷ (57, 236) ∷ (58, 237) ∷ (59, 238) ∷ (61, 239) ∷ (95, 240) ∷
-    (104, 307) ∷ (105, 243) ∷ (106, 244) ∷ (107, 245) ∷ (108, 246) ∷ [])
+abbrev pub state_264 : Row
+state_264 = at
+    ((315, 1, 75594758153096221229056) ∷ [])
+    ((56, begin_at 3 322 0 128) ∷ (57, begin_at 4 145 0 4294967424) ∷
+    (58, begin_at 4 144 0 4294967424) ∷ (59, begin_at 5 149 0 15032385664) ∷
+    (60, begin_at 5 148 0 15032385664) ∷ (61, begin_at 6 155 0 15032385664) ∷
+    (63, begin_at 6 154 0 15032385664) ∷ (99, begin_at 7 293 0 15032385664) ∷
+    (108, begin_at 1 315 1 75594758153096221229056) ∷
+    (109, begin_at 2 317 0 9075798085364633305089) ∷
+    (110, begin_at 3 318 0 9075798085364633305089) ∷ (111, begin_at 4 320 0 4294967296) ∷
+    (112, begin_at 2 316 0 75594758153096221229056) ∷ [])
+    ((0, (0, 259)) ∷ (18, (1, 260)) ∷ (20, (1, 261)) ∷ (22, (1, 262)) ∷ (24, (1, 263)) ∷
+    (40, (0, 265)) ∷ (66, (0, 266)) ∷ (67, (0, 267)) ∷ (69, (0, 268)) ∷ (70, (0, 269)) ∷
+    (71, (0, 270)) ∷ (72, (0, 271)) ∷ [])
+    ((56, 245) ∷ (57, 246) ∷ (58, 247) ∷ (59, 248) ∷ (60, 249) ∷ (61, 250) ∷ (63, 251) ∷ (99, 252) ∷
+    (108, 321) ∷ (109, 255) ∷ (110, 256) ∷ (111, 257) ∷ (112, 258) ∷ [])
     []
 
 -- after ProgramText ^let ^fun Variable Interface '_
-abbrev pub state_253 : Row
-state_253 = at
-    ((164, 1, 147573952348621243549) ∷ [])
+abbrev pub state_265 : Row
+state_265 = at
+    ((168, 1, 9444732964707424273565) ∷ [])
     []
     []
     []
-    ((164, 147573952348621243549) ∷ [])
+    ((168, 9444732964707424273565) ∷ [])
 
 -- after ProgramText ^let ^fun Variable Interface Int
-abbrev pub state_254 : Row
-state_254 = at
-    ((156, 1, 147573952348621243549) ∷ (157, 1, 147573952348621243549) ∷
-    (158, 1, 147573952348621243549) ∷ [])
+abbrev pub state_266 : Row
+state_266 = at
+    ((160, 1, 9444732964707424273565) ∷ (161, 1, 9444732964707424273565) ∷
+    (162, 1, 9444732964707424273565) ∷ [])
     []
-    ((1, (0, 308)) ∷ (6, (0, 309)) ∷ [])
+    ((1, (0, 322)) ∷ (6, (0, 323)) ∷ [])
     []
-    ((156, 147573952348621243549) ∷ [])
+    ((160, 9444732964707424273565) ∷ [])
 
 -- after ProgramText ^let ^fun Variable Interface Char1
-abbrev pub state_255 : Row
-state_255 = at
-    ((160, 1, 147573952348621243549) ∷ (161, 1, 147573952348621243549) ∷ [])
+abbrev pub state_267 : Row
+state_267 = at
+    ((164, 1, 9444732964707424273565) ∷ (165, 1, 9444732964707424273565) ∷ [])
     []
-    ((6, (0, 310)) ∷ [])
+    ((6, (0, 324)) ∷ [])
     []
-    ((160, 147573952348621243549) ∷ [])
+    ((164, 9444732964707424273565) ∷ [])
 
 -- after ProgramText ^let ^fun Variable Interface Text
-abbrev pub state_256 : Row
-state_256 = at
-    ((162, 1, 147573952348621243549) ∷ [])
+abbrev pub state_268 : Row
+state_268 = at
+    ((166, 1, 9444732964707424273565) ∷ [])
     []
     []
     []
-    ((162, 147573952348621243549) ∷ [])
+    ((166, 9444732964707424273565) ∷ [])
 
 -- after ProgramText ^let ^fun Variable Interface Atom
-abbrev pub state_257 : Row
-state_257 = at
-    ((163, 1, 147573952348621243549) ∷ [])
+abbrev pub state_269 : Row
+state_269 = at
+    ((167, 1, 9444732964707424273565) ∷ [])
     []
     []
     []
-    ((163, 147573952348621243549) ∷ [])
+    ((167, 9444732964707424273565) ∷ [])
 
 -- after ProgramText ^let ^fun Variable Interface TypeName
-abbrev pub state_258 : Row
-state_258 = at
-    ((165, 1, 147573952348621243549) ∷ [])
+abbrev pub state_270 : Row
+state_270 = at
+    ((169, 1, 9444732964707424273565) ∷ [])
     []
     []
     []
-    ((165, 147573952348621243549) ∷ [])
+    ((169, 9444732964707424273565) ∷ [])
 
 -- after ProgramText ^let ^fun Variable Interface Variable
-abbrev pub state_259 : Row
-state_259 = at
-    ((280, 1, 147573952348621243549) ∷ [])
+abbrev pub state_271 : Row
+state_271 = at
+    ((292, 1, 9444732964707424273565) ∷ [])
     []
     []
     []
-    ((280, 147573952348621243549) ∷ [])
+    ((292, 9444732964707424273565) ∷ [])
 
 -- after ProgramText ^let ^fun Variable ^( Union
-abbrev pub state_260 : Row
-state_260 = at
-    ((301, 1, 17180131328) ∷ [])
+abbrev pub state_272 : Row
+state_272 = at
+    ((313, 1, 34360262656) ∷ [])
     []
-    ((7, (1, 311)) ∷ [])
+    ((7, (1, 325)) ∷ [])
     []
     []
 
 -- after ProgramText ^let ^fun Variable ^( Sigs
-abbrev pub state_261 : Row
-state_261 = at
-    ((298, 2, 141809345343678709761) ∷ (300, 1, 17180131328) ∷ [])
+abbrev pub state_273 : Row
+state_273 = at
+    ((310, 2, 9075798085368928272385) ∷ (312, 1, 34360262656) ∷ [])
     []
-    ((18, (0, 312)) ∷ (34, (0, 313)) ∷ [])
+    ((19, (0, 326)) ∷ (35, (0, 327)) ∷ [])
     []
     []
 
 -- after ProgramText ^let ^fun Variable ^( Sig
-abbrev pub state_262 : Row
-state_262 = at
-    ((299, 1, 17180131328) ∷ [])
+abbrev pub state_274 : Row
+state_274 = at
+    ((311, 1, 34360262656) ∷ [])
     []
     []
     []
-    ((299, 17180131328) ∷ [])
+    ((311, 34360262656) ∷ [])
 
 -- after ProgramText ^let ^fun Variable Interface Union' ^->
-abbrev pub state_263 : Row
-state_263 = at
-    ((309, 2, 2147483648) ∷ (310, 2, 1180591855488918159360) ∷ [])
-    ((109, begin_at 1 310 2 1180591855488918159360) ∷ (110, begin_at 1 309 2 2147483648) ∷
-    (111, begin_at 2 322 0 1180591855491065643008) ∷
-    (112, begin_at 3 324 0 1180591855491065675776) ∷
-    (113, begin_at 3 323 0 1180591855491065675776) ∷
-    (114, begin_at 4 328 0 1180591855491065692160) ∷
-    (115, begin_at 4 327 0 1180591855491065692160) ∷
-    (116, begin_at 5 332 0 1180591855491065692160) ∷
-    (117, begin_at 5 331 0 1180591855491124426752) ∷
-    (118, begin_at 6 340 0 1180591855628563380224) ∷
-    (119, begin_at 6 339 0 1180591855628563380224) ∷
-    (120, begin_at 7 344 0 1180591855630442428416) ∷
-    (121, begin_at 7 343 0 1180591855630442428416) ∷
-    (122, begin_at 8 352 0 1180618877228340869120) ∷
-    (123, begin_at 8 351 0 1180618877228340869120) ∷
-    (124, begin_at 9 365 0 1285534734147566696448) ∷
-    (125, begin_at 9 364 0 1285534734147566696448) ∷
-    (126, begin_at 10 369 0 1285534734181926434816) ∷
-    (131, begin_at 10 368 0 1285534734181926434816) ∷
-    (133, begin_at 11 381 0 1285534734181926434816) ∷
-    (134, begin_at 12 384 0 1285534734181926434816) ∷ [])
-    ((17, (1, 335)) ∷ (19, (1, 336)) ∷ (21, (1, 337)) ∷ (23, (1, 338)) ∷ (40, (1, 339)) ∷
-    (41, (1, 340)) ∷ (43, (1, 341)) ∷ (45, (1, 342)) ∷ (48, (1, 343)) ∷ (49, (1, 344)) ∷
-    (50, (1, 345)) ∷ (55, (0, 346)) ∷ (56, (0, 347)) ∷ (57, (0, 348)) ∷ (58, (0, 349)) ∷
-    (59, (0, 350)) ∷ (60, (0, 351)) ∷ (61, (0, 352)) ∷ (63, (0, 353)) ∷ (64, (0, 354)) ∷
-    (66, (0, 355)) ∷ [])
-    ((109, 314) ∷ (110, 315) ∷ (111, 316) ∷ (112, 317) ∷ (113, 318) ∷ (114, 319) ∷ (115, 320) ∷
-    (116, 321) ∷ (117, 322) ∷ (118, 323) ∷ (119, 324) ∷ (120, 325) ∷ (121, 326) ∷ (122, 327) ∷
-    (123, 328) ∷ (124, 329) ∷ (125, 330) ∷ (126, 331) ∷ (131, 332) ∷ (133, 333) ∷ (134, 334) ∷ [])
+abbrev pub state_275 : Row
+state_275 = at
+    ((321, 2, 4294967296) ∷ (322, 2, 75594758153096221229056) ∷ [])
+    ((113, begin_at 1 322 2 75594758153096221229056) ∷ (114, begin_at 1 321 2 4294967296) ∷
+    (115, begin_at 2 334 0 75594758153100516196352) ∷
+    (116, begin_at 3 336 0 75594758153100516229120) ∷
+    (117, begin_at 3 335 0 75594758153100516229120) ∷
+    (118, begin_at 4 340 0 75594758153100516245504) ∷
+    (119, begin_at 4 339 0 75594758153100516245504) ∷
+    (120, begin_at 5 344 0 75594758153100516245504) ∷
+    (121, begin_at 5 343 0 75594758153100633700352) ∷
+    (122, begin_at 6 352 0 75594758153650389514240) ∷
+    (123, begin_at 6 351 0 75594758153650389514240) ∷
+    (124, begin_at 7 356 0 75594758153654147610624) ∷
+    (125, begin_at 7 355 0 75594758153654147610624) ∷
+    (126, begin_at 8 364 0 75594866240045472937984) ∷
+    (127, begin_at 8 363 0 75594866240045472937984) ∷
+    (128, begin_at 9 379 0 82309481082875755231232) ∷
+    (129, begin_at 9 378 0 82309481082875755231232) ∷
+    (134, begin_at 10 382 0 82309481083081913792512) ∷
+    (136, begin_at 11 395 0 82309481083081913792512) ∷
+    (137, begin_at 12 398 0 82309481083081913792512) ∷ [])
+    ((18, (1, 348)) ∷ (20, (1, 349)) ∷ (22, (1, 350)) ∷ (24, (1, 351)) ∷ (42, (1, 352)) ∷
+    (43, (1, 353)) ∷ (45, (1, 354)) ∷ (47, (1, 355)) ∷ (50, (1, 356)) ∷ (51, (1, 357)) ∷
+    (52, (1, 358)) ∷ (57, (0, 359)) ∷ (58, (0, 360)) ∷ (59, (0, 361)) ∷ (60, (0, 362)) ∷
+    (61, (0, 363)) ∷ (62, (0, 364)) ∷ (63, (0, 365)) ∷ (66, (0, 366)) ∷ (67, (0, 367)) ∷
+    (69, (0, 368)) ∷ (70, (0, 369)) ∷ (72, (0, 370)) ∷ [])
+    ((113, 328) ∷ (114, 329) ∷ (115, 330) ∷ (116, 331) ∷ (117, 332) ∷ (118, 333) ∷ (119, 334) ∷
+    (120, 335) ∷ (121, 336) ∷ (122, 337) ∷ (123, 338) ∷ (124, 339) ∷ (125, 340) ∷ (126, 341) ∷
+    (127, 342) ∷ (128, 343) ∷ (129, 344) ∷ (134, 345) ∷ (136, 346) ∷ (137, 347) ∷ [])
     []
 
 -- after ProgramText ^let ^fun Variable Interface Meets' '|
-abbrev pub state_264 : Row
-state_264 = at
-    ((143, 2, 6755427396355200) ∷ [])
-    ((56, begin_at 1 143 2 6755427396355200) ∷ (57, begin_at 2 145 0 6755432765064320) ∷
-    (58, begin_at 2 144 0 6755432765064320) ∷ (59, begin_at 3 151 0 6755432765064320) ∷
-    (61, begin_at 3 150 0 6755432765064320) ∷ (95, begin_at 4 281 0 6755432765064320) ∷ [])
-    ((0, (0, 247)) ∷ (17, (1, 248)) ∷ (19, (1, 249)) ∷ (21, (1, 250)) ∷ (23, (1, 251)) ∷
-    (38, (0, 253)) ∷ (60, (0, 254)) ∷ (61, (0, 255)) ∷ (63, (0, 256)) ∷ (64, (0, 257)) ∷
-    (65, (0, 258)) ∷ (66, (0, 259)) ∷ [])
-    ((56, 356) ∷ (57, 236) ∷ (58, 237) ∷ (59, 238) ∷ (61, 239) ∷ (95, 240) ∷ [])
+abbrev pub state_276 : Row
+state_276 = at
+    ((147, 2, 27040345372492928) ∷ [])
+    ((58, begin_at 1 147 2 27040345372492928) ∷ (59, begin_at 2 149 0 27040356109911168) ∷
+    (60, begin_at 2 148 0 27040356109911168) ∷ (61, begin_at 3 155 0 27040356109911168) ∷
+    (63, begin_at 3 154 0 27040356109911168) ∷ (99, begin_at 4 293 0 27040356109911168) ∷ [])
+    ((0, (0, 259)) ∷ (18, (1, 260)) ∷ (20, (1, 261)) ∷ (22, (1, 262)) ∷ (24, (1, 263)) ∷
+    (40, (0, 265)) ∷ (66, (0, 266)) ∷ (67, (0, 267)) ∷ (69, (0, 268)) ∷ (70, (0, 269)) ∷
+    (71, (0, 270)) ∷ (72, (0, 271)) ∷ [])
+    ((58, 371) ∷ (59, 248) ∷ (60, 249) ∷ (61, 250) ∷ (63, 251) ∷ (99, 252) ∷ [])
     []
 
 -- after ProgramText ^let ^fun Variable Interface Meet' '|
-abbrev pub state_265 : Row
-state_265 = at
-    ((142, 2, 6755427396355200) ∷ [])
-    ((56, begin_at 1 142 2 6755427396355200) ∷ (57, begin_at 2 145 0 6755432765064320) ∷
-    (58, begin_at 2 144 0 6755432765064320) ∷ (59, begin_at 3 151 0 6755432765064320) ∷
-    (61, begin_at 3 150 0 6755432765064320) ∷ (95, begin_at 4 281 0 6755432765064320) ∷ [])
-    ((0, (0, 247)) ∷ (17, (1, 248)) ∷ (19, (1, 249)) ∷ (21, (1, 250)) ∷ (23, (1, 251)) ∷
-    (38, (0, 253)) ∷ (60, (0, 254)) ∷ (61, (0, 255)) ∷ (63, (0, 256)) ∷ (64, (0, 257)) ∷
-    (65, (0, 258)) ∷ (66, (0, 259)) ∷ [])
-    ((56, 357) ∷ (57, 236) ∷ (58, 237) ∷ (59, 238) ∷ (61, 239) ∷ (95, 240) ∷ [])
+abbrev pub state_277 : Row
+state_277 = at
+    ((146, 2, 27040345372492928) ∷ [])
+    ((58, begin_at 1 146 2 27040345372492928) ∷ (59, begin_at 2 149 0 27040356109911168) ∷
+    (60, begin_at 2 148 0 27040356109911168) ∷ (61, begin_at 3 155 0 27040356109911168) ∷
+    (63, begin_at 3 154 0 27040356109911168) ∷ (99, begin_at 4 293 0 27040356109911168) ∷ [])
+    ((0, (0, 259)) ∷ (18, (1, 260)) ∷ (20, (1, 261)) ∷ (22, (1, 262)) ∷ (24, (1, 263)) ∷
+    (40, (0, 265)) ∷ (66, (0, 266)) ∷ (67, (0, 267)) ∷ (69, (0, 268)) ∷ (70, (0, 269)) ∷
+    (71, (0, 270)) ∷ (72, (0, 271)) ∷ [])
+    ((58, 372) ∷ (59, 248) ∷ (60, 249) ∷ (61, 250) ∷ (63, 251) ∷ (99, 252) ∷ [])
     []
 
 -- after ProgramText ^let ^fun Variable Interface Signs' '\
-abbrev pub state_266 : Row
-state_266 = at
-    ((149, 2, 6755432765064320) ∷ [])
-    ((58, begin_at 1 149 2 6755432765064320) ∷ (59, begin_at 2 151 0 6755432765064320) ∷
-    (61, begin_at 2 150 0 6755432765064320) ∷ (95, begin_at 3 281 0 6755432765064320) ∷ [])
-    ((0, (0, 247)) ∷ (17, (1, 248)) ∷ (19, (1, 249)) ∷ (21, (1, 250)) ∷ (23, (1, 251)) ∷
-    (38, (0, 253)) ∷ (60, (0, 254)) ∷ (61, (0, 255)) ∷ (63, (0, 256)) ∷ (64, (0, 257)) ∷
-    (65, (0, 258)) ∷ (66, (0, 259)) ∷ [])
-    ((58, 358) ∷ (59, 238) ∷ (61, 239) ∷ (95, 240) ∷ [])
+abbrev pub state_278 : Row
+state_278 = at
+    ((153, 2, 27040356109911168) ∷ [])
+    ((60, begin_at 1 153 2 27040356109911168) ∷ (61, begin_at 2 155 0 27040356109911168) ∷
+    (63, begin_at 2 154 0 27040356109911168) ∷ (99, begin_at 3 293 0 27040356109911168) ∷ [])
+    ((0, (0, 259)) ∷ (18, (1, 260)) ∷ (20, (1, 261)) ∷ (22, (1, 262)) ∷ (24, (1, 263)) ∷
+    (40, (0, 265)) ∷ (66, (0, 266)) ∷ (67, (0, 267)) ∷ (69, (0, 268)) ∷ (70, (0, 269)) ∷
+    (71, (0, 270)) ∷ (72, (0, 271)) ∷ [])
+    ((60, 373) ∷ (61, 250) ∷ (63, 251) ∷ (99, 252) ∷ [])
     []
 
 -- after ProgramText ^let ^fun Variable Interface Signs' '&
-abbrev pub state_267 : Row
-state_267 = at
-    ((148, 2, 6755432765064320) ∷ [])
-    ((58, begin_at 1 148 2 6755432765064320) ∷ (59, begin_at 2 151 0 6755432765064320) ∷
-    (61, begin_at 2 150 0 6755432765064320) ∷ (95, begin_at 3 281 0 6755432765064320) ∷ [])
-    ((0, (0, 247)) ∷ (17, (1, 248)) ∷ (19, (1, 249)) ∷ (21, (1, 250)) ∷ (23, (1, 251)) ∷
-    (38, (0, 253)) ∷ (60, (0, 254)) ∷ (61, (0, 255)) ∷ (63, (0, 256)) ∷ (64, (0, 257)) ∷
-    (65, (0, 258)) ∷ (66, (0, 259)) ∷ [])
-    ((58, 359) ∷ (59, 238) ∷ (61, 239) ∷ (95, 240) ∷ [])
+abbrev pub state_279 : Row
+state_279 = at
+    ((152, 2, 27040356109911168) ∷ [])
+    ((60, begin_at 1 152 2 27040356109911168) ∷ (61, begin_at 2 155 0 27040356109911168) ∷
+    (63, begin_at 2 154 0 27040356109911168) ∷ (99, begin_at 3 293 0 27040356109911168) ∷ [])
+    ((0, (0, 259)) ∷ (18, (1, 260)) ∷ (20, (1, 261)) ∷ (22, (1, 262)) ∷ (24, (1, 263)) ∷
+    (40, (0, 265)) ∷ (66, (0, 266)) ∷ (67, (0, 267)) ∷ (69, (0, 268)) ∷ (70, (0, 269)) ∷
+    (71, (0, 270)) ∷ (72, (0, 271)) ∷ [])
+    ((60, 374) ∷ (61, 250) ∷ (63, 251) ∷ (99, 252) ∷ [])
     []
 
 -- after ProgramText ^let ^fun Variable Interface Simple' '\
-abbrev pub state_268 : Row
-state_268 = at
-    ((147, 2, 6755432765064320) ∷ [])
-    ((58, begin_at 1 147 2 6755432765064320) ∷ (59, begin_at 2 151 0 6755432765064320) ∷
-    (61, begin_at 2 150 0 6755432765064320) ∷ (95, begin_at 3 281 0 6755432765064320) ∷ [])
-    ((0, (0, 247)) ∷ (17, (1, 248)) ∷ (19, (1, 249)) ∷ (21, (1, 250)) ∷ (23, (1, 251)) ∷
-    (38, (0, 253)) ∷ (60, (0, 254)) ∷ (61, (0, 255)) ∷ (63, (0, 256)) ∷ (64, (0, 257)) ∷
-    (65, (0, 258)) ∷ (66, (0, 259)) ∷ [])
-    ((58, 360) ∷ (59, 238) ∷ (61, 239) ∷ (95, 240) ∷ [])
+abbrev pub state_280 : Row
+state_280 = at
+    ((151, 2, 27040356109911168) ∷ [])
+    ((60, begin_at 1 151 2 27040356109911168) ∷ (61, begin_at 2 155 0 27040356109911168) ∷
+    (63, begin_at 2 154 0 27040356109911168) ∷ (99, begin_at 3 293 0 27040356109911168) ∷ [])
+    ((0, (0, 259)) ∷ (18, (1, 260)) ∷ (20, (1, 261)) ∷ (22, (1, 262)) ∷ (24, (1, 263)) ∷
+    (40, (0, 265)) ∷ (66, (0, 266)) ∷ (67, (0, 267)) ∷ (69, (0, 268)) ∷ (70, (0, 269)) ∷
+    (71, (0, 270)) ∷ (72, (0, 271)) ∷ [])
+    ((60, 375) ∷ (61, 250) ∷ (63, 251) ∷ (99, 252) ∷ [])
     []
 
 -- after ProgramText ^let ^fun Variable Interface Simple' '&
-abbrev pub state_269 : Row
-state_269 = at
-    ((146, 2, 6755432765064320) ∷ [])
-    ((58, begin_at 1 146 2 6755432765064320) ∷ (59, begin_at 2 151 0 6755432765064320) ∷
-    (61, begin_at 2 150 0 6755432765064320) ∷ (95, begin_at 3 281 0 6755432765064320) ∷ [])
-    ((0, (0, 247)) ∷ (17, (1, 248)) ∷ (19, (1, 249)) ∷ (21, (1, 250)) ∷ (23, (1, 251)) ∷
-    (38, (0, 253)) ∷ (60, (0, 254)) ∷ (61, (0, 255)) ∷ (63, (0, 256)) ∷ (64, (0, 257)) ∷
-    (65, (0, 258)) ∷ (66, (0, 259)) ∷ [])
-    ((58, 361) ∷ (59, 238) ∷ (61, 239) ∷ (95, 240) ∷ [])
+abbrev pub state_281 : Row
+state_281 = at
+    ((150, 2, 27040356109911168) ∷ [])
+    ((60, begin_at 1 150 2 27040356109911168) ∷ (61, begin_at 2 155 0 27040356109911168) ∷
+    (63, begin_at 2 154 0 27040356109911168) ∷ (99, begin_at 3 293 0 27040356109911168) ∷ [])
+    ((0, (0, 259)) ∷ (18, (1, 260)) ∷ (20, (1, 261)) ∷ (22, (1, 262)) ∷ (24, (1, 263)) ∷
+    (40, (0, 265)) ∷ (66, (0, 266)) ∷ (67, (0, 267)) ∷ (69, (0, 268)) ∷ (70, (0, 269)) ∷
+    (71, (0, 270)) ∷ (72, (0, 271)) ∷ [])
+    ((60, 376) ∷ (61, 250) ∷ (63, 251) ∷ (99, 252) ∷ [])
     []
 
 -- after ProgramText ^let ^fun Variable Interface Closed Full
-abbrev pub state_270 : Row
-state_270 = at
-    ((307, 2, 141809345341531226113) ∷ [])
+abbrev pub state_282 : Row
+state_282 = at
+    ((319, 2, 9075798085364633305089) ∷ [])
     []
     []
     []
-    ((307, 141809345341531226113) ∷ [])
+    ((319, 9075798085364633305089) ∷ [])
 
 -- after ProgramText ^let ^fun Variable Interface Closed Last
-abbrev pub state_271 : Row
-state_271 = at
-    ((305, 2, 1180591855488918159360) ∷ [])
+abbrev pub state_283 : Row
+state_283 = at
+    ((317, 2, 75594758153096221229056) ∷ [])
     []
     []
     []
-    ((305, 1180591855488918159360) ∷ [])
+    ((317, 75594758153096221229056) ∷ [])
 
 -- after ProgramText ^let ^fun Variable Interface Branch '|
-abbrev pub state_272 : Row
-state_272 = at
-    ((308, 2, 141809345341531226113) ∷ [])
+abbrev pub state_284 : Row
+state_284 = at
+    ((320, 2, 9075798085364633305089) ∷ [])
     []
     []
     []
-    ((308, 141809345341531226113) ∷ [])
+    ((320, 9075798085364633305089) ∷ [])
 
 -- after ProgramText ^let ^fun Variable Interface '*-- Int
-abbrev pub state_273 : Row
-state_273 = at
-    ((159, 2, 147573952348621243549) ∷ [])
+abbrev pub state_285 : Row
+state_285 = at
+    ((163, 2, 9444732964707424273565) ∷ [])
     []
     []
     []
-    ((159, 147573952348621243549) ∷ [])
+    ((163, 9444732964707424273565) ∷ [])
 
 -- after ProgramText ^let ^fun Variable Interface ^( Tree'
-abbrev pub state_274 : Row
-state_274 = at
-    ((152, 2, 147573952348621243549) ∷ (154, 1, 8590196736) ∷ [])
+abbrev pub state_286 : Row
+state_286 = at
+    ((156, 2, 9444732964707424273565) ∷ (158, 1, 17180393472) ∷ [])
     []
-    ((18, (0, 362)) ∷ (33, (0, 363)) ∷ [])
+    ((19, (0, 377)) ∷ (34, (0, 378)) ∷ [])
     []
     []
 
 -- after ProgramText ^let ^fun Variable Interface ^( Arrow'
-abbrev pub state_275 : Row
-state_275 = at
-    ((131, 1, 25774261248) ∷ (132, 1, 25774261248) ∷ [])
+abbrev pub state_287 : Row
+state_287 = at
+    ((135, 1, 1151060149248) ∷ (136, 1, 1151060149248) ∷ [])
     []
-    ((51, (0, 364)) ∷ [])
+    ((53, (0, 379)) ∷ [])
     []
-    ((131, 25774261248) ∷ [])
+    ((135, 1151060149248) ∷ [])
 
 -- after ProgramText ^let ^fun Variable Interface ^( Arrows'
-abbrev pub state_276 : Row
-state_276 = at
-    ((137, 1, 6755425215316992) ∷ [])
+abbrev pub state_288 : Row
+state_288 = at
+    ((141, 1, 27022748824372224) ∷ [])
     []
     []
     []
-    ((137, 6755425215316992) ∷ [])
+    ((141, 27022748824372224) ∷ [])
 
 -- after ProgramText ^let ^fun Variable Interface ^( Union'
-abbrev pub state_277 : Row
-state_277 = at
-    ((136, 1, 6755425215316992) ∷ (138, 1, 6755425215316992) ∷ (139, 1, 6755425215316992) ∷ [])
+abbrev pub state_289 : Row
+state_289 = at
+    ((140, 1, 27022748824372224) ∷ (142, 1, 27022748824372224) ∷ (143, 1, 27022748824372224) ∷ [])
     []
-    ((7, (1, 365)) ∷ [])
+    ((7, (1, 380)) ∷ [])
     []
-    ((136, 6755425215316992) ∷ [])
+    ((140, 27022748824372224) ∷ [])
 
 -- after ProgramText ^let ^fun Variable Interface ^( Trees'
-abbrev pub state_278 : Row
-state_278 = at
-    ((153, 2, 147573952348621243549) ∷ (155, 1, 8590196736) ∷ [])
+abbrev pub state_290 : Row
+state_290 = at
+    ((157, 2, 9444732964707424273565) ∷ (159, 1, 17180393472) ∷ [])
     []
-    ((18, (0, 366)) ∷ (33, (0, 367)) ∷ [])
+    ((19, (0, 381)) ∷ (34, (0, 382)) ∷ [])
     []
     []
 
 -- after ProgramText ^let ^fun Variable Interface ^( Variable
-abbrev pub state_279 : Row
-state_279 = at
-    ((280, 1, 2251815920074880) ∷ (283, 2, 147573952348621243549) ∷ [])
+abbrev pub state_291 : Row
+state_291 = at
+    ((292, 1, 9007231467520128) ∷ (295, 2, 9444732964707424273565) ∷ [])
     []
-    ((9, (0, 368)) ∷ [])
+    ((9, (0, 383)) ∷ [])
     []
-    ((280, 2251815920074880) ∷ [])
+    ((292, 9007231467520128) ∷ [])
 
 -- after ProgramText ^let ^fun Variable Interface ^[ Bare'
-abbrev pub state_280 : Row
-state_280 = at
-    ((232, 1, 146423283176349499549) ∷ [])
+abbrev pub state_292 : Row
+state_292 = at
+    ((240, 1, 9370954997776395272349) ∷ [])
     []
     []
     []
-    ((232, 146423283176349499549) ∷ [])
+    ((240, 9370954997776395272349) ∷ [])
 
 -- after ProgramText ^let ^fun Variable Interface ^[ Reg'
-abbrev pub state_281 : Row
-state_281 = at
-    ((169, 2, 147573952348621243549) ∷ [])
+abbrev pub state_293 : Row
+state_293 = at
+    ((173, 2, 9444732964707424273565) ∷ [])
     []
-    ((20, (0, 369)) ∷ [])
+    ((21, (0, 384)) ∷ [])
     []
     []
 
 -- after ProgramText ^let ^fun Variable Interface ^[ Alts'
-abbrev pub state_282 : Row
-state_282 = at
-    ((197, 1, 1048576) ∷ (199, 1, 2148532224) ∷ [])
+abbrev pub state_294 : Row
+state_294 = at
+    ((205, 1, 2097152) ∷ (207, 1, 4297064448) ∷ [])
     []
-    ((31, (0, 370)) ∷ [])
+    ((32, (0, 385)) ∷ [])
     []
-    ((197, 1048576) ∷ [])
+    ((205, 2097152) ∷ [])
 
 -- after ProgramText ^let ^fun Variable Interface ^[ RSeq'
-abbrev pub state_283 : Row
-state_283 = at
-    ((196, 1, 1048576) ∷ (198, 1, 2148532224) ∷ [])
+abbrev pub state_295 : Row
+state_295 = at
+    ((204, 1, 2097152) ∷ (206, 1, 4297064448) ∷ [])
     []
-    ((31, (0, 371)) ∷ [])
+    ((32, (0, 386)) ∷ [])
     []
-    ((196, 1048576) ∷ [])
+    ((204, 2097152) ∷ [])
 
 -- after ProgramText ^let ^fun Variable Interface ^[ RPosts'
-abbrev pub state_284 : Row
-state_284 = at
-    ((201, 1, 2148532224) ∷ (203, 1, 146421031362107146241) ∷ [])
-    ((61, begin_at 5 232 0 146421031367945617437) ∷ (74, begin_at 1 203 1 146421031362107146241) ∷
-    (75, begin_at 2 204 0 146421031362576908317) ∷ (76, begin_at 3 207 0 146421031362576908317) ∷
-    (82, begin_at 3 206 0 146421031362576908317) ∷ (83, begin_at 4 227 0 146421031367945617437) ∷
-    (84, begin_at 4 226 0 146421031367945617437) ∷ (85, begin_at 5 234 0 146421031367945617437) ∷
-    (95, begin_at 6 282 0 146421031367945617437) ∷ [])
-    ((0, (0, 247)) ∷ (17, (1, 293)) ∷ (19, (1, 249)) ∷ (21, (1, 250)) ∷ (23, (1, 251)) ∷
-    (38, (0, 253)) ∷ (60, (0, 254)) ∷ (61, (0, 255)) ∷ (62, (0, 295)) ∷ (63, (0, 256)) ∷
-    (64, (0, 257)) ∷ (65, (0, 258)) ∷ (66, (0, 296)) ∷ [])
-    ((61, 280) ∷ (74, 372) ∷ (75, 286) ∷ (76, 287) ∷ (82, 288) ∷ (83, 289) ∷ (84, 290) ∷ (85, 291) ∷
-    (95, 292) ∷ [])
-    ((201, 2148532224) ∷ [])
+abbrev pub state_296 : Row
+state_296 = at
+    ((209, 1, 4297064448) ∷ (211, 1, 9370945990548283195393) ∷ [])
+    ((63, begin_at 5 240 0 9370945990559960137757) ∷ (78, begin_at 1 211 1 9370945990548283195393) ∷
+    (79, begin_at 2 212 0 9370945990549222719517) ∷ (80, begin_at 3 215 0 9370945990549222719517) ∷
+    (86, begin_at 3 214 0 9370945990549222719517) ∷ (87, begin_at 4 235 0 9370945990559960137757) ∷
+    (88, begin_at 4 234 0 9370945990559960137757) ∷ (89, begin_at 5 242 0 9370945990559960137757) ∷
+    (99, begin_at 6 294 0 9370945990559960137757) ∷ [])
+    ((0, (0, 259)) ∷ (18, (1, 305)) ∷ (20, (1, 261)) ∷ (22, (1, 262)) ∷ (24, (1, 263)) ∷
+    (40, (0, 265)) ∷ (66, (0, 266)) ∷ (67, (0, 267)) ∷ (68, (0, 307)) ∷ (69, (0, 268)) ∷
+    (70, (0, 269)) ∷ (71, (0, 270)) ∷ (72, (0, 308)) ∷ [])
+    ((63, 292) ∷ (78, 387) ∷ (79, 298) ∷ (80, 299) ∷ (86, 300) ∷ (87, 301) ∷ (88, 302) ∷ (89, 303) ∷
+    (99, 304) ∷ [])
+    ((209, 4297064448) ∷ [])
 
 -- after ProgramText ^let ^fun Variable Interface ^[ RPost'
-abbrev pub state_285 : Row
-state_285 = at
-    ((200, 1, 2148532224) ∷ (202, 1, 146421031362107146241) ∷ [])
-    ((61, begin_at 5 232 0 146421031367945617437) ∷ (74, begin_at 1 202 1 146421031362107146241) ∷
-    (75, begin_at 2 204 0 146421031362576908317) ∷ (76, begin_at 3 207 0 146421031362576908317) ∷
-    (82, begin_at 3 206 0 146421031362576908317) ∷ (83, begin_at 4 227 0 146421031367945617437) ∷
-    (84, begin_at 4 226 0 146421031367945617437) ∷ (85, begin_at 5 234 0 146421031367945617437) ∷
-    (95, begin_at 6 282 0 146421031367945617437) ∷ [])
-    ((0, (0, 247)) ∷ (17, (1, 293)) ∷ (19, (1, 249)) ∷ (21, (1, 250)) ∷ (23, (1, 251)) ∷
-    (38, (0, 253)) ∷ (60, (0, 254)) ∷ (61, (0, 255)) ∷ (62, (0, 295)) ∷ (63, (0, 256)) ∷
-    (64, (0, 257)) ∷ (65, (0, 258)) ∷ (66, (0, 296)) ∷ [])
-    ((61, 280) ∷ (74, 373) ∷ (75, 286) ∷ (76, 287) ∷ (82, 288) ∷ (83, 289) ∷ (84, 290) ∷ (85, 291) ∷
-    (95, 292) ∷ [])
-    ((200, 2148532224) ∷ [])
+abbrev pub state_297 : Row
+state_297 = at
+    ((208, 1, 4297064448) ∷ (210, 1, 9370945990548283195393) ∷ [])
+    ((63, begin_at 5 240 0 9370945990559960137757) ∷ (78, begin_at 1 210 1 9370945990548283195393) ∷
+    (79, begin_at 2 212 0 9370945990549222719517) ∷ (80, begin_at 3 215 0 9370945990549222719517) ∷
+    (86, begin_at 3 214 0 9370945990549222719517) ∷ (87, begin_at 4 235 0 9370945990559960137757) ∷
+    (88, begin_at 4 234 0 9370945990559960137757) ∷ (89, begin_at 5 242 0 9370945990559960137757) ∷
+    (99, begin_at 6 294 0 9370945990559960137757) ∷ [])
+    ((0, (0, 259)) ∷ (18, (1, 305)) ∷ (20, (1, 261)) ∷ (22, (1, 262)) ∷ (24, (1, 263)) ∷
+    (40, (0, 265)) ∷ (66, (0, 266)) ∷ (67, (0, 267)) ∷ (68, (0, 307)) ∷ (69, (0, 268)) ∷
+    (70, (0, 269)) ∷ (71, (0, 270)) ∷ (72, (0, 308)) ∷ [])
+    ((63, 292) ∷ (78, 388) ∷ (79, 298) ∷ (80, 299) ∷ (86, 300) ∷ (87, 301) ∷ (88, 302) ∷ (89, 303) ∷
+    (99, 304) ∷ [])
+    ((208, 4297064448) ∷ [])
 
 -- after ProgramText ^let ^fun Variable Interface ^[ RItem'
-abbrev pub state_286 : Row
-state_286 = at
-    ((204, 1, 146421031362107408385) ∷ (205, 1, 146421031362107408385) ∷ [])
-    ((93, begin_at 1 205 1 146421031362107408385) ∷ [])
-    ((2, (0, 125)) ∷ (3, (0, 126)) ∷ (4, (0, 127)) ∷ (26, (0, 128)) ∷ (27, (0, 129)) ∷
-    (28, (0, 130)) ∷ [])
-    ((93, 374) ∷ [])
-    ((204, 146421031362107408385) ∷ [])
+abbrev pub state_298 : Row
+state_298 = at
+    ((212, 1, 9370945990548283719681) ∷ (213, 1, 9370945990548283719681) ∷ [])
+    ((97, begin_at 1 213 1 9370945990548283719681) ∷ [])
+    ((2, (0, 131)) ∷ (3, (0, 132)) ∷ (4, (0, 133)) ∷ (27, (0, 134)) ∷ (28, (0, 135)) ∷
+    (29, (0, 136)) ∷ [])
+    ((97, 389) ∷ [])
+    ((212, 9370945990548283719681) ∷ [])
 
 -- after ProgramText ^let ^fun Variable Interface ^[ Group'
-abbrev pub state_287 : Row
-state_287 = at
-    ((207, 1, 146421031362577170461) ∷ [])
+abbrev pub state_299 : Row
+state_299 = at
+    ((215, 1, 9370945990549223243805) ∷ [])
     []
     []
     []
-    ((207, 146421031362577170461) ∷ [])
+    ((215, 9370945990549223243805) ∷ [])
 
 -- after ProgramText ^let ^fun Variable Interface ^[ IItem'
-abbrev pub state_288 : Row
-state_288 = at
-    ((206, 1, 146421031362577170461) ∷ [])
+abbrev pub state_300 : Row
+state_300 = at
+    ((214, 1, 9370945990549223243805) ∷ [])
     []
     []
     []
-    ((206, 146421031362577170461) ∷ [])
+    ((214, 9370945990549223243805) ∷ [])
 
 -- after ProgramText ^let ^fun Variable Interface ^[ ISigns'
-abbrev pub state_289 : Row
-state_289 = at
-    ((227, 1, 146423283170980790429) ∷ (230, 1, 146423283176349499549) ∷
-    (231, 1, 146423283176349499549) ∷ [])
+abbrev pub state_301 : Row
+state_301 = at
+    ((235, 1, 9370954997765657854109) ∷ (238, 1, 9370954997776395272349) ∷
+    (239, 1, 9370954997776395272349) ∷ [])
     []
-    ((30, (0, 375)) ∷ (32, (0, 376)) ∷ [])
+    ((31, (0, 390)) ∷ (33, (0, 391)) ∷ [])
     []
-    ((227, 146423283170980790429) ∷ [])
+    ((235, 9370954997765657854109) ∷ [])
 
 -- after ProgramText ^let ^fun Variable Interface ^[ IBase'
-abbrev pub state_290 : Row
-state_290 = at
-    ((226, 1, 146423283170980790429) ∷ (228, 1, 146423283176349499549) ∷
-    (229, 1, 146423283176349499549) ∷ [])
+abbrev pub state_302 : Row
+state_302 = at
+    ((234, 1, 9370954997765657854109) ∷ (236, 1, 9370954997776395272349) ∷
+    (237, 1, 9370954997776395272349) ∷ [])
     []
-    ((30, (0, 377)) ∷ (32, (0, 378)) ∷ [])
+    ((31, (0, 392)) ∷ (33, (0, 393)) ∷ [])
     []
-    ((226, 146423283170980790429) ∷ [])
+    ((234, 9370954997765657854109) ∷ [])
 
 -- after ProgramText ^let ^fun Variable Interface ^[ Own'
-abbrev pub state_291 : Row
-state_291 = at
-    ((234, 1, 146423283176349499549) ∷ [])
+abbrev pub state_303 : Row
+state_303 = at
+    ((242, 1, 9370954997776395272349) ∷ [])
     []
     []
     []
-    ((234, 146423283176349499549) ∷ [])
+    ((242, 9370954997776395272349) ∷ [])
 
 -- after ProgramText ^let ^fun Variable Interface ^[ Default
-abbrev pub state_292 : Row
-state_292 = at
-    ((282, 1, 146423283176349499549) ∷ [])
+abbrev pub state_304 : Row
+state_304 = at
+    ((294, 1, 9370954997776395272349) ∷ [])
     []
     []
     []
-    ((282, 146423283176349499549) ∷ [])
+    ((294, 9370954997776395272349) ∷ [])
 
 -- after ProgramText ^let ^fun Variable Interface ^[ ^(
-abbrev pub state_293 : Row
-state_293 = at
-    ((209, 1, 146421031362577170461) ∷ (233, 1, 146423283176349499549) ∷
-    (235, 1, 146423283176349499549) ∷ (236, 1, 146423283176349499549) ∷
-    (283, 1, 146423283176349499549) ∷ [])
-    ((61, begin_at 4 232 0 146423283176348450973) ∷ (76, begin_at 4 223 0 146421031362576121885) ∷
-    (77, begin_at 1 209 1 262144) ∷ (78, begin_at 2 211 0 2147745792) ∷
-    (79, begin_at 2 210 0 2147745792) ∷ (80, begin_at 3 219 0 146421031362106359809) ∷
-    (81, begin_at 3 218 0 146421031362106359809) ∷ (82, begin_at 2 247 0 146423283170979741853) ∷
-    (83, begin_at 3 227 0 146423283176348450973) ∷ (84, begin_at 3 226 0 146423283176348450973) ∷
-    (85, begin_at 4 234 0 146423283176348450973) ∷ (86, begin_at 1 235 1 8590196736) ∷
-    (87, begin_at 2 237 0 8589934592) ∷ (88, begin_at 1 236 1 8590196736) ∷
-    (89, begin_at 2 241 0 2251808403881984) ∷ (90, begin_at 3 244 0 2251808403881984) ∷
-    (91, begin_at 1 233 1 2251808403882112) ∷ (92, begin_at 2 248 0 2251810551365760) ∷
-    (95, begin_at 5 282 0 146423283176348450973) ∷ [])
-    ((0, (0, 247)) ∷ (17, (1, 293)) ∷ (19, (1, 249)) ∷ (21, (1, 250)) ∷ (23, (1, 251)) ∷
-    (38, (0, 253)) ∷ (60, (0, 254)) ∷ (61, (0, 255)) ∷ (62, (0, 295)) ∷ (63, (0, 256)) ∷
-    (64, (0, 257)) ∷ (65, (0, 258)) ∷ (66, (0, 393)) ∷ [])
-    ((61, 280) ∷ (76, 379) ∷ (77, 380) ∷ (78, 381) ∷ (79, 382) ∷ (80, 383) ∷ (81, 384) ∷ (82, 385) ∷
-    (83, 289) ∷ (84, 290) ∷ (85, 291) ∷ (86, 386) ∷ (87, 387) ∷ (88, 388) ∷ (89, 389) ∷ (90, 390) ∷
-    (91, 391) ∷ (92, 392) ∷ (95, 292) ∷ [])
+abbrev pub state_305 : Row
+state_305 = at
+    ((217, 1, 9370945990549223243805) ∷ (241, 1, 9370954997776395272349) ∷
+    (243, 1, 9370954997776395272349) ∷ (244, 1, 9370954997776395272349) ∷
+    (295, 1, 9370954997776395272349) ∷ [])
+    ((63, begin_at 4 240 0 9370954997776393175197) ∷ (80, begin_at 4 231 0 9370945990549221146653) ∷
+    (81, begin_at 1 217 1 524288) ∷ (82, begin_at 2 219 0 4295491584) ∷
+    (83, begin_at 2 218 0 4295491584) ∷ (84, begin_at 3 227 0 9370945990548281622529) ∷
+    (85, begin_at 3 226 0 9370945990548281622529) ∷ (86, begin_at 2 255 0 9370954997765655756957) ∷
+    (87, begin_at 3 235 0 9370954997776393175197) ∷ (88, begin_at 3 234 0 9370954997776393175197) ∷
+    (89, begin_at 4 242 0 9370954997776393175197) ∷ (90, begin_at 1 243 1 17180393472) ∷
+    (91, begin_at 2 245 0 17179869184) ∷ (92, begin_at 1 244 1 17180393472) ∷
+    (93, begin_at 2 249 0 9007216435134464) ∷ (94, begin_at 3 252 0 9007216435134464) ∷
+    (95, begin_at 1 241 1 9007216435134592) ∷ (96, begin_at 2 256 0 9007220730101888) ∷
+    (99, begin_at 5 294 0 9370954997776393175197) ∷ [])
+    ((0, (0, 259)) ∷ (18, (1, 305)) ∷ (20, (1, 261)) ∷ (22, (1, 262)) ∷ (24, (1, 263)) ∷
+    (40, (0, 265)) ∷ (66, (0, 266)) ∷ (67, (0, 267)) ∷ (68, (0, 307)) ∷ (69, (0, 268)) ∷
+    (70, (0, 269)) ∷ (71, (0, 270)) ∷ (72, (0, 408)) ∷ [])
+    ((63, 292) ∷ (80, 394) ∷ (81, 395) ∷ (82, 396) ∷ (83, 397) ∷ (84, 398) ∷ (85, 399) ∷ (86, 400) ∷
+    (87, 301) ∷ (88, 302) ∷ (89, 303) ∷ (90, 401) ∷ (91, 402) ∷ (92, 403) ∷ (93, 404) ∷ (94, 405) ∷
+    (95, 406) ∷ (96, 407) ∷ (99, 304) ∷ [])
     []
 
 -- after ProgramText ^let ^fun Variable Interface ^[ ']
-abbrev pub state_294 : Row
-state_294 = at
-    ((168, 2, 147573952348621243549) ∷ [])
+abbrev pub state_306 : Row
+state_306 = at
+    ((172, 2, 9444732964707424273565) ∷ [])
     []
     []
     []
-    ((168, 147573952348621243549) ∷ [])
+    ((172, 9444732964707424273565) ∷ [])
 
 -- after ProgramText ^let ^fun Variable Interface ^[ CharN
-abbrev pub state_295 : Row
-state_295 = at
-    ((208, 1, 146421031362577170461) ∷ [])
+abbrev pub state_307 : Row
+state_307 = at
+    ((216, 1, 9370945990549223243805) ∷ [])
     []
     []
     []
-    ((208, 146421031362577170461) ∷ [])
+    ((216, 9370945990549223243805) ∷ [])
 
 -- after ProgramText ^let ^fun Variable Interface ^[ Variable
-abbrev pub state_296 : Row
-state_296 = at
-    ((280, 1, 146421031367945879581) ∷ (289, 1, 146421031362107408385) ∷ [])
+abbrev pub state_308 : Row
+state_308 = at
+    ((292, 1, 9370945990559960662045) ∷ (301, 1, 9370945990548283719681) ∷ [])
     []
-    ((8, (1, 394)) ∷ [])
+    ((8, (1, 409)) ∷ [])
     []
-    ((280, 146421031367945879581) ∷ [])
+    ((292, 9370945990559960662045) ∷ [])
 
 -- after ProgramText ^let ^fun Variable Interface ^{ Fields'
-abbrev pub state_297 : Row
-state_297 = at
-    ((167, 2, 147573952348621243549) ∷ [])
+abbrev pub state_309 : Row
+state_309 = at
+    ((171, 2, 9444732964707424273565) ∷ [])
     []
-    ((22, (0, 395)) ∷ [])
+    ((23, (0, 410)) ∷ [])
     []
     []
+
+-- after ProgramText ^let ^fun Variable Interface ^{ Others'
+abbrev pub state_310 : Row
+state_310 = at
+    ((178, 1, 8388608) ∷ [])
+    []
+    []
+    []
+    ((178, 8388608) ∷ [])
 
 -- after ProgramText ^let ^fun Variable Interface ^{ FieldList'
-abbrev pub state_298 : Row
-state_298 = at
-    ((172, 1, 4194304) ∷ (173, 1, 4194304) ∷ (175, 1, 4194304) ∷ (176, 1, 4194304) ∷
-    (178, 1, 17184064512) ∷ [])
-    []
-    ((10, (0, 396)) ∷ (34, (0, 397)) ∷ [])
-    []
-    ((172, 4194304) ∷ [])
+abbrev pub state_311 : Row
+state_311 = at
+    ((176, 1, 8388608) ∷ (177, 1, 8388608) ∷ (179, 1, 8388608) ∷ (180, 1, 8388608) ∷
+    (184, 1, 1133879755776) ∷ [])
+    ((65, begin_at 1 179 1 8388608) ∷ [])
+    ((10, (0, 314)) ∷ (35, (0, 412)) ∷ (40, (0, 316)) ∷ [])
+    ((65, 411) ∷ [])
+    ((176, 8388608) ∷ [])
 
 -- after ProgramText ^let ^fun Variable Interface ^{ Field'
-abbrev pub state_299 : Row
-state_299 = at
-    ((177, 1, 17184064512) ∷ [])
+abbrev pub state_312 : Row
+state_312 = at
+    ((183, 1, 1133879755776) ∷ [])
     []
     []
     []
-    ((177, 17184064512) ∷ [])
+    ((183, 1133879755776) ∷ [])
 
 -- after ProgramText ^let ^fun Variable Interface ^{ Label
-abbrev pub state_300 : Row
-state_300 = at
-    ((179, 1, 17184064512) ∷ (180, 1, 17184064512) ∷ [])
+abbrev pub state_313 : Row
+state_313 = at
+    ((185, 1, 1133879755776) ∷ (186, 1, 1133879755776) ∷ [])
     []
-    ((5, (0, 398)) ∷ (25, (0, 399)) ∷ [])
+    ((5, (0, 413)) ∷ (26, (0, 414)) ∷ [])
     []
     []
 
 -- after ProgramText ^let ^fun Variable Interface ^{ '..
-abbrev pub state_301 : Row
-state_301 = at
-    ((174, 1, 4194304) ∷ [])
+abbrev pub state_314 : Row
+state_314 = at
+    ((181, 1, 8388608) ∷ [])
     []
     []
     []
-    ((174, 4194304) ∷ [])
+    ((181, 8388608) ∷ [])
 
 -- after ProgramText ^let ^fun Variable Interface ^{ '}
-abbrev pub state_302 : Row
-state_302 = at
-    ((166, 2, 147573952348621243549) ∷ [])
+abbrev pub state_315 : Row
+state_315 = at
+    ((170, 2, 9444732964707424273565) ∷ [])
     []
     []
     []
-    ((166, 147573952348621243549) ∷ [])
+    ((170, 9444732964707424273565) ∷ [])
+
+-- after ProgramText ^let ^fun Variable Interface ^{ '_
+abbrev pub state_316 : Row
+state_316 = at
+    ((182, 1, 8388608) ∷ [])
+    []
+    ((5, (0, 415)) ∷ [])
+    []
+    []
 
 -- after ProgramText ^let ^fun Variable Interface ^< Tag'
-abbrev pub state_303 : Row
-state_303 = at
-    ((170, 2, 147573952348621243549) ∷ (171, 2, 147573952348621243549) ∷ [])
-    ((66, begin_at 1 171 2 16777216) ∷ (67, begin_at 2 184 0 16777216) ∷
-    (68, begin_at 3 186 0 111833385414304990208) ∷ (69, begin_at 4 191 0 111833385414304990208) ∷
-    (94, begin_at 5 194 0 33554464) ∷ [])
-    ((10, (0, 405)) ∷ (17, (1, 406)) ∷ (24, (0, 407)) ∷ (39, (0, 67)) ∷ (40, (0, 68)) ∷
-    (41, (0, 69)) ∷ (42, (0, 70)) ∷ (43, (0, 71)) ∷ (44, (0, 72)) ∷ (45, (0, 73)) ∷ (46, (0, 74)) ∷
-    (47, (0, 75)) ∷ (48, (0, 76)) ∷ (49, (0, 77)) ∷ (50, (0, 78)) ∷ (51, (0, 79)) ∷ (52, (0, 80)) ∷
-    (53, (0, 81)) ∷ (54, (0, 82)) ∷ (55, (0, 83)) ∷ (56, (0, 84)) ∷ (57, (0, 85)) ∷ (58, (0, 86)) ∷
-    (59, (0, 87)) ∷ (65, (0, 88)) ∷ (66, (0, 89)) ∷ [])
-    ((66, 400) ∷ (67, 401) ∷ (68, 402) ∷ (69, 403) ∷ (94, 404) ∷ [])
+abbrev pub state_317 : Row
+state_317 = at
+    ((174, 2, 9444732964707424273565) ∷ (175, 2, 9444732964707424273565) ∷ [])
+    ((69, begin_at 1 175 2 33554432) ∷ (70, begin_at 2 190 0 33554432) ∷
+    (71, begin_at 3 194 0 33554432) ∷ (72, begin_at 3 192 0 7157336699534187693056) ∷
+    (73, begin_at 4 199 0 7157336699534187693056) ∷ (98, begin_at 5 202 0 67108896) ∷ [])
+    ((10, (0, 422)) ∷ (18, (1, 423)) ∷ (25, (0, 424)) ∷ (40, (0, 425)) ∷ (41, (0, 69)) ∷
+    (42, (0, 70)) ∷ (43, (0, 71)) ∷ (44, (0, 72)) ∷ (45, (0, 73)) ∷ (46, (0, 74)) ∷ (47, (0, 75)) ∷
+    (48, (0, 76)) ∷ (49, (0, 77)) ∷ (50, (0, 78)) ∷ (51, (0, 79)) ∷ (52, (0, 80)) ∷ (53, (0, 81)) ∷
+    (54, (0, 82)) ∷ (55, (0, 83)) ∷ (56, (0, 84)) ∷ (57, (0, 85)) ∷ (58, (0, 86)) ∷ (59, (0, 87)) ∷
+    (60, (0, 88)) ∷ (61, (0, 89)) ∷ (62, (0, 90)) ∷ (63, (0, 91)) ∷ (64, (0, 92)) ∷ (65, (0, 93)) ∷
+    (71, (0, 94)) ∷ (72, (0, 95)) ∷ [])
+    ((69, 416) ∷ (70, 417) ∷ (71, 418) ∷ (72, 419) ∷ (73, 420) ∷ (98, 421) ∷ [])
     []
 
 -- after ProgramText ^let ^fun Variable Interface ^< Label
-abbrev pub state_304 : Row
-state_304 = at
-    ((181, 1, 111833385397125252096) ∷ [])
+abbrev pub state_318 : Row
+state_318 = at
+    ((187, 1, 7157336699499828216832) ∷ [])
     []
     []
     []
-    ((181, 111833385397125252096) ∷ [])
+    ((187, 7157336699499828216832) ∷ [])
 
 -- after ProgramText ^let ^fun Variable Interface ^< ^(
-abbrev pub state_305 : Row
-state_305 = at
-    ((183, 1, 111833385397125252096) ∷ [])
-    ((49, begin_at 1 183 1 262144) ∷ (52, begin_at 2 131 0 2251799813947392) ∷
-    (53, begin_at 3 137 0 2251799813947392) ∷ (54, begin_at 3 136 0 2251799813947520) ∷
-    (55, begin_at 4 141 0 2251801961431168) ∷ (56, begin_at 4 140 0 2251801961431168) ∷
-    (57, begin_at 5 145 0 2251807330140288) ∷ (58, begin_at 5 144 0 2251807330140288) ∷
-    (59, begin_at 6 151 0 2251807330140288) ∷ (61, begin_at 6 150 0 2251807330140288) ∷
-    (95, begin_at 7 281 0 2251807330140288) ∷ [])
-    ((0, (0, 247)) ∷ (17, (1, 248)) ∷ (19, (1, 249)) ∷ (21, (1, 250)) ∷ (23, (1, 251)) ∷
-    (38, (0, 253)) ∷ (60, (0, 254)) ∷ (61, (0, 255)) ∷ (63, (0, 256)) ∷ (64, (0, 257)) ∷
-    (65, (0, 258)) ∷ (66, (0, 259)) ∷ [])
-    ((49, 408) ∷ (52, 275) ∷ (53, 276) ∷ (54, 277) ∷ (55, 234) ∷ (56, 235) ∷ (57, 236) ∷ (58, 237) ∷
-    (59, 238) ∷ (61, 239) ∷ (95, 240) ∷ [])
+abbrev pub state_319 : Row
+state_319 = at
+    ((189, 1, 7157336699499828216832) ∷ [])
+    ((51, begin_at 1 189 1 524288) ∷ (54, begin_at 2 135 0 9007199255265280) ∷
+    (55, begin_at 3 141 0 9007199255265280) ∷ (56, begin_at 3 140 0 9007199255265408) ∷
+    (57, begin_at 4 145 0 9007203550232704) ∷ (58, begin_at 4 144 0 9007203550232704) ∷
+    (59, begin_at 5 149 0 9007214287650944) ∷ (60, begin_at 5 148 0 9007214287650944) ∷
+    (61, begin_at 6 155 0 9007214287650944) ∷ (63, begin_at 6 154 0 9007214287650944) ∷
+    (99, begin_at 7 293 0 9007214287650944) ∷ [])
+    ((0, (0, 259)) ∷ (18, (1, 260)) ∷ (20, (1, 261)) ∷ (22, (1, 262)) ∷ (24, (1, 263)) ∷
+    (40, (0, 265)) ∷ (66, (0, 266)) ∷ (67, (0, 267)) ∷ (69, (0, 268)) ∷ (70, (0, 269)) ∷
+    (71, (0, 270)) ∷ (72, (0, 271)) ∷ [])
+    ((51, 426) ∷ (54, 287) ∷ (55, 288) ∷ (56, 289) ∷ (57, 246) ∷ (58, 247) ∷ (59, 248) ∷ (60, 249) ∷
+    (61, 250) ∷ (63, 251) ∷ (99, 252) ∷ [])
     []
 
 -- after ProgramText ^let ^fun Variable Interface ^< '_
-abbrev pub state_306 : Row
-state_306 = at
-    ((182, 1, 111833385397125252096) ∷ [])
+abbrev pub state_320 : Row
+state_320 = at
+    ((188, 1, 7157336699499828216832) ∷ [])
     []
     []
     []
-    ((182, 111833385397125252096) ∷ [])
+    ((188, 7157336699499828216832) ∷ [])
 
 -- after ProgramText ^let ^fun Variable Interface '| Rest
-abbrev pub state_307 : Row
-state_307 = at
-    ((303, 2, 1180591855488918159360) ∷ [])
+abbrev pub state_321 : Row
+state_321 = at
+    ((315, 2, 75594758153096221229056) ∷ [])
     []
     []
     []
-    ((303, 1180591855488918159360) ∷ [])
+    ((315, 75594758153096221229056) ∷ [])
 
 -- after ProgramText ^let ^fun Variable Interface Int '--*
-abbrev pub state_308 : Row
-state_308 = at
-    ((158, 2, 147573952348621243549) ∷ [])
+abbrev pub state_322 : Row
+state_322 = at
+    ((162, 2, 9444732964707424273565) ∷ [])
     []
     []
     []
-    ((158, 147573952348621243549) ∷ [])
+    ((162, 9444732964707424273565) ∷ [])
 
 -- after ProgramText ^let ^fun Variable Interface Int '--
-abbrev pub state_309 : Row
-state_309 = at
-    ((157, 2, 147573952348621243549) ∷ [])
+abbrev pub state_323 : Row
+state_323 = at
+    ((161, 2, 9444732964707424273565) ∷ [])
     []
-    ((60, (0, 409)) ∷ [])
+    ((66, (0, 427)) ∷ [])
     []
     []
 
 -- after ProgramText ^let ^fun Variable Interface Char1 '--
-abbrev pub state_310 : Row
-state_310 = at
-    ((161, 2, 147573952348621243549) ∷ [])
+abbrev pub state_324 : Row
+state_324 = at
+    ((165, 2, 9444732964707424273565) ∷ [])
     []
-    ((61, (0, 410)) ∷ [])
+    ((67, (0, 428)) ∷ [])
     []
     []
 
 -- after ProgramText ^let ^fun Variable ^( Union ^->
-abbrev pub state_311 : Row
-state_311 = at
-    ((301, 2, 17180131328) ∷ [])
-    ((8, begin_at 1 301 2 17180131328) ∷ (9, begin_at 2 17 0 17180131328) ∷
-    (10, begin_at 2 16 0 17180131456) ∷ (11, begin_at 3 21 0 19327615104) ∷
-    (12, begin_at 3 20 0 19327615104) ∷ (13, begin_at 4 25 0 24696324224) ∷
-    (14, begin_at 4 24 0 24696324224) ∷ (15, begin_at 5 31 0 24696324224) ∷
-    (17, begin_at 5 30 0 24696324224) ∷ [])
-    ((0, (0, 15)) ∷ (17, (1, 16)) ∷ (19, (1, 17)) ∷ (21, (1, 18)) ∷ (23, (1, 19)) ∷ (38, (0, 20)) ∷
-    (60, (0, 21)) ∷ (61, (0, 22)) ∷ (63, (0, 23)) ∷ (64, (0, 24)) ∷ (65, (0, 25)) ∷ [])
-    ((8, 411) ∷ (9, 7) ∷ (10, 8) ∷ (11, 9) ∷ (12, 10) ∷ (13, 11) ∷ (14, 12) ∷ (15, 13) ∷ (17, 14) ∷
+abbrev pub state_325 : Row
+state_325 = at
+    ((313, 2, 34360262656) ∷ [])
+    ((8, begin_at 1 313 2 34360262656) ∷ (9, begin_at 2 17 0 34360262656) ∷
+    (10, begin_at 2 16 0 34360262784) ∷ (11, begin_at 3 21 0 38655230080) ∷
+    (12, begin_at 3 20 0 38655230080) ∷ (13, begin_at 4 25 0 49392648320) ∷
+    (14, begin_at 4 24 0 49392648320) ∷ (15, begin_at 5 31 0 49392648320) ∷
+    (17, begin_at 5 30 0 49392648320) ∷ [])
+    ((0, (0, 15)) ∷ (18, (1, 16)) ∷ (20, (1, 17)) ∷ (22, (1, 18)) ∷ (24, (1, 19)) ∷ (40, (0, 20)) ∷
+    (66, (0, 21)) ∷ (67, (0, 22)) ∷ (69, (0, 23)) ∷ (70, (0, 24)) ∷ (71, (0, 25)) ∷ [])
+    ((8, 429) ∷ (9, 7) ∷ (10, 8) ∷ (11, 9) ∷ (12, 10) ∷ (13, 11) ∷ (14, 12) ∷ (15, 13) ∷ (17, 14) ∷
     [])
     []
 
 -- after ProgramText ^let ^fun Variable ^( Sigs ')
-abbrev pub state_312 : Row
-state_312 = at
-    ((298, 3, 141809345343678709761) ∷ [])
+abbrev pub state_326 : Row
+state_326 = at
+    ((310, 3, 9075798085368928272385) ∷ [])
     []
     []
     []
-    ((298, 141809345343678709761) ∷ [])
+    ((310, 9075798085368928272385) ∷ [])
 
 -- after ProgramText ^let ^fun Variable ^( Sigs ';
-abbrev pub state_313 : Row
-state_313 = at
-    ((300, 2, 17180131328) ∷ [])
-    ((10, begin_at 2 301 0 128) ∷ (11, begin_at 3 21 0 2147483776) ∷
-    (12, begin_at 3 20 0 2147483776) ∷ (13, begin_at 4 25 0 7516192896) ∷
-    (14, begin_at 4 24 0 7516192896) ∷ (15, begin_at 5 31 0 7516192896) ∷
-    (17, begin_at 5 30 0 7516192896) ∷ (102, begin_at 1 300 2 17180131328) ∷ [])
-    ((0, (0, 15)) ∷ (17, (1, 16)) ∷ (19, (1, 17)) ∷ (21, (1, 18)) ∷ (23, (1, 19)) ∷ (38, (0, 20)) ∷
-    (60, (0, 21)) ∷ (61, (0, 22)) ∷ (63, (0, 23)) ∷ (64, (0, 24)) ∷ (65, (0, 25)) ∷ [])
-    ((10, 260) ∷ (11, 9) ∷ (12, 10) ∷ (13, 11) ∷ (14, 12) ∷ (15, 13) ∷ (17, 14) ∷ (102, 412) ∷ [])
+abbrev pub state_327 : Row
+state_327 = at
+    ((312, 2, 34360262656) ∷ [])
+    ((10, begin_at 2 313 0 128) ∷ (11, begin_at 3 21 0 4294967424) ∷
+    (12, begin_at 3 20 0 4294967424) ∷ (13, begin_at 4 25 0 15032385664) ∷
+    (14, begin_at 4 24 0 15032385664) ∷ (15, begin_at 5 31 0 15032385664) ∷
+    (17, begin_at 5 30 0 15032385664) ∷ (106, begin_at 1 312 2 34360262656) ∷ [])
+    ((0, (0, 15)) ∷ (18, (1, 16)) ∷ (20, (1, 17)) ∷ (22, (1, 18)) ∷ (24, (1, 19)) ∷ (40, (0, 20)) ∷
+    (66, (0, 21)) ∷ (67, (0, 22)) ∷ (69, (0, 23)) ∷ (70, (0, 24)) ∷ (71, (0, 25)) ∷ [])
+    ((10, 272) ∷ (11, 9) ∷ (12, 10) ∷ (13, 11) ∷ (14, 12) ∷ (15, 13) ∷ (17, 14) ∷ (106, 430) ∷ [])
     []
 
 -- after ProgramText ^let ^fun Variable Interface Union' ^-> Expr
-abbrev pub state_314 : Row
-state_314 = at
-    ((310, 3, 1180591855488918159360) ∷ [])
-    []
-    []
-    []
-    ((310, 1180591855488918159360) ∷ [])
-
--- after ProgramText ^let ^fun Variable Interface Union' ^-> Body
-abbrev pub state_315 : Row
-state_315 = at
-    ((309, 3, 2147483648) ∷ [])
-    []
-    []
-    []
-    ((309, 2147483648) ∷ [])
-
--- after ProgramText ^let ^fun Variable Interface Union' ^-> Or
-abbrev pub state_316 : Row
-state_316 = at
-    ((319, 1, 1180591855488918159360) ∷ (322, 1, 2147483648) ∷ [])
-    []
-    []
-    []
-    ((319, 1180591855488918159360) ∷ (322, 2147483648) ∷ [])
-
--- after ProgramText ^let ^fun Variable Interface Union' ^-> Ors
-abbrev pub state_317 : Row
-state_317 = at
-    ((324, 1, 1180591855491065643008) ∷ (326, 1, 1180591855491065675776) ∷ [])
-    []
-    ((15, (0, 413)) ∷ [])
-    []
-    ((324, 1180591855491065643008) ∷ [])
-
--- after ProgramText ^let ^fun Variable Interface Union' ^-> And
-abbrev pub state_318 : Row
-state_318 = at
-    ((323, 1, 1180591855491065643008) ∷ (325, 1, 1180591855491065675776) ∷ [])
-    []
-    ((15, (0, 414)) ∷ [])
-    []
-    ((323, 1180591855491065643008) ∷ [])
-
--- after ProgramText ^let ^fun Variable Interface Union' ^-> Ands
-abbrev pub state_319 : Row
-state_319 = at
-    ((328, 1, 1180591855491065675776) ∷ (330, 1, 1180591855491065692160) ∷ [])
-    []
-    ((14, (0, 415)) ∷ [])
-    []
-    ((328, 1180591855491065675776) ∷ [])
-
--- after ProgramText ^let ^fun Variable Interface Union' ^-> Cmp
-abbrev pub state_320 : Row
-state_320 = at
-    ((327, 1, 1180591855491065675776) ∷ (329, 1, 1180591855491065692160) ∷ [])
-    []
-    ((14, (0, 416)) ∷ [])
-    []
-    ((327, 1180591855491065675776) ∷ [])
-
--- after ProgramText ^let ^fun Variable Interface Union' ^-> Compared
-abbrev pub state_321 : Row
-state_321 = at
-    ((332, 1, 1180591855491065692160) ∷ [])
-    []
-    []
-    []
-    ((332, 1180591855491065692160) ∷ [])
-
--- after ProgramText ^let ^fun Variable Interface Union' ^-> Cat
-abbrev pub state_322 : Row
-state_322 = at
-    ((331, 1, 1180591855491065692160) ∷ (333, 1, 1180591855491065692160) ∷
-    (334, 1, 1180591855491065692160) ∷ (335, 1, 1180591855491065692160) ∷
-    (336, 1, 1180591855491065692160) ∷ (337, 1, 1180591855491065692160) ∷
-    (338, 1, 1180591855491065692160) ∷ [])
-    []
-    ((11, (0, 417)) ∷ (12, (0, 418)) ∷ (13, (0, 419)) ∷ (23, (0, 420)) ∷ (24, (0, 421)) ∷
-    (25, (0, 422)) ∷ [])
-    []
-    ((331, 1180591855491065692160) ∷ [])
-
--- after ProgramText ^let ^fun Variable Interface Union' ^-> Cats
-abbrev pub state_323 : Row
-state_323 = at
-    ((340, 1, 1180591855491124426752) ∷ (342, 1, 1180591855628563380224) ∷ [])
-    []
-    ((37, (0, 423)) ∷ [])
-    []
-    ((340, 1180591855491124426752) ∷ [])
-
--- after ProgramText ^let ^fun Variable Interface Union' ^-> Sum
-abbrev pub state_324 : Row
-state_324 = at
-    ((339, 1, 1180591855491124426752) ∷ (341, 1, 1180591855628563380224) ∷ [])
-    []
-    ((37, (0, 424)) ∷ [])
-    []
-    ((339, 1180591855491124426752) ∷ [])
-
--- after ProgramText ^let ^fun Variable Interface Union' ^-> Sums
-abbrev pub state_325 : Row
-state_325 = at
-    ((344, 1, 1180591855628563380224) ∷ (348, 1, 1180591855630442428416) ∷
-    (349, 1, 1180591855630442428416) ∷ (350, 1, 1180591855630442428416) ∷ [])
-    []
-    ((28, (0, 425)) ∷ (29, (0, 426)) ∷ (30, (0, 427)) ∷ [])
-    []
-    ((344, 1180591855628563380224) ∷ [])
-
--- after ProgramText ^let ^fun Variable Interface Union' ^-> Prod
-abbrev pub state_326 : Row
-state_326 = at
-    ((343, 1, 1180591855628563380224) ∷ (345, 1, 1180591855630442428416) ∷
-    (346, 1, 1180591855630442428416) ∷ (347, 1, 1180591855630442428416) ∷ [])
-    []
-    ((28, (0, 428)) ∷ (29, (0, 429)) ∷ (30, (0, 430)) ∷ [])
-    []
-    ((343, 1180591855628563380224) ∷ [])
-
--- after ProgramText ^let ^fun Variable Interface Union' ^-> Prods
-abbrev pub state_327 : Row
-state_327 = at
-    ((352, 1, 1180591855630442428416) ∷ (356, 1, 1180618877228340869120) ∷
-    (357, 1, 1180618877228340869120) ∷ (358, 1, 1180618877228340869120) ∷ [])
-    []
-    ((27, (0, 431)) ∷ (53, (0, 432)) ∷ (54, (0, 433)) ∷ [])
-    []
-    ((352, 1180591855630442428416) ∷ [])
-
--- after ProgramText ^let ^fun Variable Interface Union' ^-> App
 abbrev pub state_328 : Row
 state_328 = at
-    ((351, 1, 1180591855630442428416) ∷ (353, 1, 1180618877228340869120) ∷
-    (354, 1, 1180618877228340869120) ∷ (355, 1, 1180618877228340869120) ∷ [])
+    ((322, 3, 75594758153096221229056) ∷ [])
     []
-    ((27, (0, 434)) ∷ (53, (0, 435)) ∷ (54, (0, 436)) ∷ [])
     []
-    ((351, 1180591855630442428416) ∷ [])
+    []
+    ((322, 75594758153096221229056) ∷ [])
 
--- after ProgramText ^let ^fun Variable Interface Union' ^-> Posts
+-- after ProgramText ^let ^fun Variable Interface Union' ^-> Body
 abbrev pub state_329 : Row
 state_329 = at
-    ((365, 1, 1180618877228340869120) ∷ (367, 1, 1285534734147566696448) ∷ [])
-    ((127, begin_at 1 367 1 1285534734147566696448) ∷
-    (128, begin_at 2 373 0 1285534734181926434816) ∷
-    (132, begin_at 2 372 0 1285534734181926434816) ∷
-    (134, begin_at 3 383 0 1285534734181926434816) ∷ [])
-    ((17, (1, 335)) ∷ (19, (1, 336)) ∷ (21, (1, 337)) ∷ (60, (0, 351)) ∷ (61, (0, 441)) ∷
-    (63, (0, 353)) ∷ (64, (0, 354)) ∷ (66, (0, 355)) ∷ [])
-    ((127, 437) ∷ (128, 438) ∷ (132, 439) ∷ (134, 440) ∷ [])
-    ((365, 1180618877228340869120) ∷ [])
+    ((321, 3, 4294967296) ∷ [])
+    []
+    []
+    []
+    ((321, 4294967296) ∷ [])
 
--- after ProgramText ^let ^fun Variable Interface Union' ^-> Post
+-- after ProgramText ^let ^fun Variable Interface Union' ^-> Or
 abbrev pub state_330 : Row
 state_330 = at
-    ((364, 1, 1180618877228340869120) ∷ (366, 1, 1285534734147566696448) ∷ [])
-    ((127, begin_at 1 366 1 1285534734147566696448) ∷
-    (128, begin_at 2 373 0 1285534734181926434816) ∷
-    (132, begin_at 2 372 0 1285534734181926434816) ∷
-    (134, begin_at 3 383 0 1285534734181926434816) ∷ [])
-    ((17, (1, 335)) ∷ (19, (1, 336)) ∷ (21, (1, 337)) ∷ (60, (0, 351)) ∷ (61, (0, 441)) ∷
-    (63, (0, 353)) ∷ (64, (0, 354)) ∷ (66, (0, 355)) ∷ [])
-    ((127, 442) ∷ (128, 438) ∷ (132, 439) ∷ (134, 440) ∷ [])
-    ((364, 1180618877228340869120) ∷ [])
+    ((331, 1, 75594758153096221229056) ∷ (334, 1, 4294967296) ∷ [])
+    []
+    []
+    []
+    ((331, 75594758153096221229056) ∷ (334, 4294967296) ∷ [])
 
--- after ProgramText ^let ^fun Variable Interface Union' ^-> Selects
+-- after ProgramText ^let ^fun Variable Interface Union' ^-> Ors
 abbrev pub state_331 : Row
 state_331 = at
-    ((369, 1, 1328165572993487992832) ∷ (371, 1, 1328165573027847731200) ∷ [])
+    ((336, 1, 75594767160299770937344) ∷ (338, 1, 75594767160299770970112) ∷ [])
     []
-    ((35, (0, 443)) ∷ [])
+    ((15, (0, 431)) ∷ [])
     []
-    ((369, 1328165572993487992832) ∷ [])
+    ((336, 75594767160299770937344) ∷ [])
 
--- after ProgramText ^let ^fun Variable Interface Union' ^-> Base
+-- after ProgramText ^let ^fun Variable Interface Union' ^-> And
 abbrev pub state_332 : Row
 state_332 = at
-    ((368, 1, 1328165572993487992832) ∷ (370, 1, 1328165573027847731200) ∷ [])
+    ((335, 1, 75594767160299770937344) ∷ (337, 1, 75594767160299770970112) ∷ [])
     []
-    ((35, (0, 444)) ∷ [])
+    ((15, (0, 432)) ∷ [])
     []
-    ((368, 1328165572993487992832) ∷ [])
+    ((335, 75594767160299770937344) ∷ [])
 
--- after ProgramText ^let ^fun Variable Interface Union' ^-> CBase
+-- after ProgramText ^let ^fun Variable Interface Union' ^-> Ands
 abbrev pub state_333 : Row
 state_333 = at
-    ((381, 1, 1328165573027847731200) ∷ [])
+    ((340, 1, 75594767160299770970112) ∷ (342, 1, 75594767160299770986496) ∷ [])
     []
+    ((14, (0, 433)) ∷ [])
     []
-    []
-    ((381, 1328165573027847731200) ∷ [])
+    ((340, 75594767160299770970112) ∷ [])
 
--- after ProgramText ^let ^fun Variable Interface Union' ^-> Core
+-- after ProgramText ^let ^fun Variable Interface Union' ^-> Cmp
 abbrev pub state_334 : Row
 state_334 = at
-    ((384, 1, 1328165573027847731200) ∷ [])
+    ((339, 1, 75594767160299770970112) ∷ (341, 1, 75594767160299770986496) ∷ [])
     []
+    ((14, (0, 434)) ∷ [])
     []
-    []
-    ((384, 1328165573027847731200) ∷ [])
+    ((339, 75594767160299770970112) ∷ [])
 
--- after ProgramText ^let ^fun Variable Interface Union' ^-> ^(
+-- after ProgramText ^let ^fun Variable Interface Union' ^-> Compared
 abbrev pub state_335 : Row
 state_335 = at
-    ((391, 1, 1328165573027847731200) ∷ (392, 1, 1328165573027847731200) ∷ [])
-    ((109, begin_at 1 391 1 8590196736) ∷ (111, begin_at 2 319 0 8590196736) ∷
-    (112, begin_at 3 324 0 8590229504) ∷ (113, begin_at 3 323 0 8590229504) ∷
-    (114, begin_at 4 328 0 8590245888) ∷ (115, begin_at 4 327 0 8590245888) ∷
-    (116, begin_at 5 332 0 8590245888) ∷ (117, begin_at 5 331 0 8648980480) ∷
-    (118, begin_at 6 340 0 146087933952) ∷ (119, begin_at 6 339 0 146087933952) ∷
-    (120, begin_at 7 344 0 147966982144) ∷ (121, begin_at 7 343 0 147966982144) ∷
-    (122, begin_at 8 352 0 27021745865422848) ∷ (123, begin_at 8 351 0 27021745865422848) ∷
-    (124, begin_at 9 365 0 104942878665091250176) ∷ (125, begin_at 9 364 0 104942878665091250176) ∷
-    (126, begin_at 10 369 0 104942878699450988544) ∷
-    (131, begin_at 10 368 0 104942878699450988544) ∷
-    (133, begin_at 11 381 0 104942878699450988544) ∷
-    (134, begin_at 12 384 0 104942878699450988544) ∷ (135, begin_at 1 392 1 8590196736) ∷ [])
-    ((17, (1, 335)) ∷ (19, (1, 336)) ∷ (21, (1, 337)) ∷ (23, (1, 338)) ∷ (40, (1, 448)) ∷
-    (41, (1, 340)) ∷ (43, (1, 341)) ∷ (45, (1, 449)) ∷ (48, (1, 343)) ∷ (49, (1, 344)) ∷
-    (50, (1, 345)) ∷ (55, (0, 346)) ∷ (56, (0, 347)) ∷ (57, (0, 348)) ∷ (58, (0, 349)) ∷
-    (59, (0, 350)) ∷ (60, (0, 351)) ∷ (61, (0, 352)) ∷ (63, (0, 353)) ∷ (64, (0, 354)) ∷
-    (66, (0, 355)) ∷ [])
-    ((109, 445) ∷ (111, 446) ∷ (112, 317) ∷ (113, 318) ∷ (114, 319) ∷ (115, 320) ∷ (116, 321) ∷
-    (117, 322) ∷ (118, 323) ∷ (119, 324) ∷ (120, 325) ∷ (121, 326) ∷ (122, 327) ∷ (123, 328) ∷
-    (124, 329) ∷ (125, 330) ∷ (126, 331) ∷ (131, 332) ∷ (133, 333) ∷ (134, 334) ∷ (135, 447) ∷ [])
+    ((344, 1, 75594767160299770986496) ∷ [])
+    []
+    []
+    []
+    ((344, 75594767160299770986496) ∷ [])
+
+-- after ProgramText ^let ^fun Variable Interface Union' ^-> Cat
+abbrev pub state_336 : Row
+state_336 = at
+    ((343, 1, 75594767160299770986496) ∷ (345, 1, 75594767160299770986496) ∷
+    (346, 1, 75594767160299770986496) ∷ (347, 1, 75594767160299770986496) ∷
+    (348, 1, 75594767160299770986496) ∷ (349, 1, 75594767160299770986496) ∷
+    (350, 1, 75594767160299770986496) ∷ [])
+    []
+    ((11, (0, 435)) ∷ (12, (0, 436)) ∷ (13, (0, 437)) ∷ (24, (0, 438)) ∷ (25, (0, 439)) ∷
+    (26, (0, 440)) ∷ [])
+    []
+    ((343, 75594767160299770986496) ∷ [])
+
+-- after ProgramText ^let ^fun Variable Interface Union' ^-> Cats
+abbrev pub state_337 : Row
+state_337 = at
+    ((352, 1, 75594767160299888441344) ∷ (354, 1, 75594767160849644255232) ∷ [])
+    []
+    ((39, (0, 441)) ∷ [])
+    []
+    ((352, 75594767160299888441344) ∷ [])
+
+-- after ProgramText ^let ^fun Variable Interface Union' ^-> Sum
+abbrev pub state_338 : Row
+state_338 = at
+    ((351, 1, 75594767160299888441344) ∷ (353, 1, 75594767160849644255232) ∷ [])
+    []
+    ((39, (0, 442)) ∷ [])
+    []
+    ((351, 75594767160299888441344) ∷ [])
+
+-- after ProgramText ^let ^fun Variable Interface Union' ^-> Sums
+abbrev pub state_339 : Row
+state_339 = at
+    ((356, 1, 75594767160849644255232) ∷ (360, 1, 75594767160853402351616) ∷
+    (361, 1, 75594767160853402351616) ∷ (362, 1, 75594767160853402351616) ∷ [])
+    []
+    ((29, (0, 443)) ∷ (30, (0, 444)) ∷ (31, (0, 445)) ∷ [])
+    []
+    ((356, 75594767160849644255232) ∷ [])
+
+-- after ProgramText ^let ^fun Variable Interface Union' ^-> Prod
+abbrev pub state_340 : Row
+state_340 = at
+    ((355, 1, 75594767160849644255232) ∷ (357, 1, 75594767160853402351616) ∷
+    (358, 1, 75594767160853402351616) ∷ (359, 1, 75594767160853402351616) ∷ [])
+    []
+    ((29, (0, 446)) ∷ (30, (0, 447)) ∷ (31, (0, 448)) ∷ [])
+    []
+    ((355, 75594767160849644255232) ∷ [])
+
+-- after ProgramText ^let ^fun Variable Interface Union' ^-> Prods
+abbrev pub state_341 : Row
+state_341 = at
+    ((364, 1, 75594767160853402351616) ∷ (368, 1, 75594875247244727678976) ∷
+    (369, 1, 75594875247244727678976) ∷ (370, 1, 75594875247244727678976) ∷ [])
+    []
+    ((28, (0, 449)) ∷ (55, (0, 450)) ∷ (56, (0, 451)) ∷ [])
+    []
+    ((364, 75594767160853402351616) ∷ [])
+
+-- after ProgramText ^let ^fun Variable Interface Union' ^-> App
+abbrev pub state_342 : Row
+state_342 = at
+    ((363, 1, 75594767160853402351616) ∷ (365, 1, 75594875247244727678976) ∷
+    (366, 1, 75594875247244727678976) ∷ (367, 1, 75594875247244727678976) ∷ [])
+    []
+    ((28, (0, 452)) ∷ (55, (0, 453)) ∷ (56, (0, 454)) ∷ [])
+    []
+    ((363, 75594767160853402351616) ∷ [])
+
+-- after ProgramText ^let ^fun Variable Interface Union' ^-> Posts
+abbrev pub state_343 : Row
+state_343 = at
+    ((379, 1, 75594875247244727678976) ∷ (381, 1, 82309490090075009972224) ∷ [])
+    ((130, begin_at 1 381 1 82309490090075009972224) ∷
+    (135, begin_at 2 384 0 82309490090281168533504) ∷
+    (137, begin_at 3 397 0 82309490090281168533504) ∷ [])
+    ((18, (1, 348)) ∷ (20, (1, 349)) ∷ (22, (1, 350)) ∷ (66, (0, 366)) ∷ (67, (0, 458)) ∷
+    (69, (0, 368)) ∷ (70, (0, 369)) ∷ (72, (0, 370)) ∷ [])
+    ((130, 455) ∷ (135, 456) ∷ (137, 457) ∷ [])
+    ((379, 75594875247244727678976) ∷ [])
+
+-- after ProgramText ^let ^fun Variable Interface Union' ^-> Post
+abbrev pub state_344 : Row
+state_344 = at
+    ((378, 1, 75594875247244727678976) ∷ (380, 1, 82309490090075009972224) ∷ [])
+    ((130, begin_at 1 380 1 82309490090075009972224) ∷
+    (135, begin_at 2 384 0 82309490090281168533504) ∷
+    (137, begin_at 3 397 0 82309490090281168533504) ∷ [])
+    ((18, (1, 348)) ∷ (20, (1, 349)) ∷ (22, (1, 350)) ∷ (66, (0, 366)) ∷ (67, (0, 458)) ∷
+    (69, (0, 368)) ∷ (70, (0, 369)) ∷ (72, (0, 370)) ∷ [])
+    ((130, 459) ∷ (135, 456) ∷ (137, 457) ∷ [])
+    ((378, 75594875247244727678976) ∷ [])
+
+-- after ProgramText ^let ^fun Variable Interface Union' ^-> Base
+abbrev pub state_345 : Row
+state_345 = at
+    ((382, 1, 85002596690339219503104) ∷ (383, 1, 85002596690339219503104) ∷ [])
+    ((132, begin_at 1 383 1 85002596690339219503104) ∷ [])
+    ((17, (1, 461)) ∷ (36, (0, 462)) ∷ (37, (1, 463)) ∷ [])
+    ((132, 460) ∷ [])
+    ((382, 85002596690339219503104) ∷ [])
+
+-- after ProgramText ^let ^fun Variable Interface Union' ^-> CBase
+abbrev pub state_346 : Row
+state_346 = at
+    ((395, 1, 85002596690545378064384) ∷ [])
+    []
+    []
+    []
+    ((395, 85002596690545378064384) ∷ [])
+
+-- after ProgramText ^let ^fun Variable Interface Union' ^-> Core
+abbrev pub state_347 : Row
+state_347 = at
+    ((398, 1, 85002596690545378064384) ∷ [])
+    []
+    []
+    []
+    ((398, 85002596690545378064384) ∷ [])
+
+-- after ProgramText ^let ^fun Variable Interface Union' ^-> ^(
+abbrev pub state_348 : Row
+state_348 = at
+    ((405, 1, 85002596690545378064384) ∷ (406, 1, 85002596690545378064384) ∷
+    (411, 1, 85002596690545378064384) ∷ [])
+    ((113, begin_at 1 405 1 17180393472) ∷ (115, begin_at 2 331 0 17180393472) ∷
+    (116, begin_at 3 336 0 17180426240) ∷ (117, begin_at 3 335 0 17180426240) ∷
+    (118, begin_at 4 340 0 17180442624) ∷ (119, begin_at 4 339 0 17180442624) ∷
+    (120, begin_at 5 344 0 17180442624) ∷ (121, begin_at 5 343 0 17297897472) ∷
+    (122, begin_at 6 352 0 567053711360) ∷ (123, begin_at 6 351 0 567053711360) ∷
+    (124, begin_at 7 356 0 570811807744) ∷ (125, begin_at 7 355 0 570811807744) ∷
+    (126, begin_at 8 364 0 108086962137135104) ∷ (127, begin_at 8 363 0 108086962137135104) ∷
+    (128, begin_at 9 379 0 6714722929792419428352) ∷
+    (129, begin_at 9 378 0 6714722929792419428352) ∷
+    (134, begin_at 10 382 0 6714722929998577989632) ∷
+    (136, begin_at 11 395 0 6714722929998577989632) ∷
+    (137, begin_at 12 398 0 6714722929998577989632) ∷ (138, begin_at 1 406 1 17180393472) ∷ [])
+    ((18, (1, 348)) ∷ (20, (1, 349)) ∷ (22, (1, 350)) ∷ (24, (1, 351)) ∷ (42, (1, 467)) ∷
+    (43, (1, 353)) ∷ (45, (1, 354)) ∷ (47, (1, 468)) ∷ (50, (1, 356)) ∷ (51, (1, 357)) ∷
+    (52, (1, 358)) ∷ (57, (0, 359)) ∷ (58, (0, 360)) ∷ (59, (0, 361)) ∷ (60, (0, 362)) ∷
+    (61, (0, 363)) ∷ (62, (0, 364)) ∷ (63, (0, 365)) ∷ (64, (0, 469)) ∷ (66, (0, 366)) ∷
+    (67, (0, 367)) ∷ (69, (0, 368)) ∷ (70, (0, 369)) ∷ (72, (0, 370)) ∷ [])
+    ((113, 464) ∷ (115, 465) ∷ (116, 331) ∷ (117, 332) ∷ (118, 333) ∷ (119, 334) ∷ (120, 335) ∷
+    (121, 336) ∷ (122, 337) ∷ (123, 338) ∷ (124, 339) ∷ (125, 340) ∷ (126, 341) ∷ (127, 342) ∷
+    (128, 343) ∷ (129, 344) ∷ (134, 345) ∷ (136, 346) ∷ (137, 347) ∷ (138, 466) ∷ [])
     []
 
 -- after ProgramText ^let ^fun Variable Interface Union' ^-> ^[
-abbrev pub state_336 : Row
-state_336 = at
-    ((393, 1, 1328165573027847731200) ∷ (394, 1, 1328165573027847731200) ∷ [])
-    ((129, begin_at 3 404 0 109527543006382129152) ∷ (130, begin_at 4 377 0 109527543040741867520) ∷
-    (133, begin_at 4 376 0 109527543040741867520) ∷ (134, begin_at 5 384 0 109527543040741867520) ∷
-    (136, begin_at 1 394 1 109527543006382129152) ∷ (137, begin_at 2 399 0 109527543006382129152) ∷
-    [])
-    ((17, (1, 335)) ∷ (19, (1, 336)) ∷ (20, (0, 455)) ∷ (21, (1, 337)) ∷ (23, (1, 338)) ∷
-    (36, (0, 456)) ∷ (60, (0, 351)) ∷ (61, (0, 457)) ∷ (62, (0, 458)) ∷ (63, (0, 353)) ∷
-    (64, (0, 354)) ∷ (66, (0, 355)) ∷ [])
-    ((129, 450) ∷ (130, 451) ∷ (133, 452) ∷ (134, 334) ∷ (136, 453) ∷ (137, 454) ∷ [])
+abbrev pub state_349 : Row
+state_349 = at
+    ((407, 1, 85002596690545378064384) ∷ (408, 1, 85002596690545378064384) ∷ [])
+    ((131, begin_at 3 422 0 7009762748284531900416) ∷
+    (136, begin_at 4 386 0 7009762748490690461696) ∷
+    (137, begin_at 5 398 0 7009762748490690461696) ∷
+    (139, begin_at 1 408 1 7009762748284531900416) ∷
+    (140, begin_at 2 417 0 7009762748284531900416) ∷ [])
+    ((18, (1, 348)) ∷ (20, (1, 349)) ∷ (21, (0, 474)) ∷ (22, (1, 350)) ∷ (24, (1, 351)) ∷
+    (38, (0, 475)) ∷ (66, (0, 366)) ∷ (67, (0, 476)) ∷ (68, (0, 477)) ∷ (69, (0, 368)) ∷
+    (70, (0, 369)) ∷ (72, (0, 370)) ∷ [])
+    ((131, 470) ∷ (136, 471) ∷ (137, 347) ∷ (139, 472) ∷ (140, 473) ∷ [])
     []
 
 -- after ProgramText ^let ^fun Variable Interface Union' ^-> ^{
-abbrev pub state_337 : Row
-state_337 = at
-    ((395, 1, 1328165573027847731200) ∷ (396, 1, 1328165573027847731200) ∷ [])
-    ((94, begin_at 4 409 0 33554432) ∷ (138, begin_at 1 396 1 4194304) ∷
-    (139, begin_at 2 405 0 17184063488) ∷ (140, begin_at 3 407 0 17184063488) ∷ [])
-    ((22, (0, 463)) ∷ (39, (0, 67)) ∷ (40, (0, 68)) ∷ (41, (0, 69)) ∷ (42, (0, 70)) ∷
-    (43, (0, 71)) ∷ (44, (0, 72)) ∷ (45, (0, 73)) ∷ (46, (0, 74)) ∷ (47, (0, 75)) ∷ (48, (0, 76)) ∷
-    (49, (0, 77)) ∷ (50, (0, 78)) ∷ (51, (0, 79)) ∷ (52, (0, 80)) ∷ (53, (0, 81)) ∷ (54, (0, 82)) ∷
-    (55, (0, 83)) ∷ (56, (0, 84)) ∷ (57, (0, 85)) ∷ (58, (0, 86)) ∷ (59, (0, 87)) ∷ (65, (0, 88)) ∷
-    (66, (0, 89)) ∷ [])
-    ((94, 459) ∷ (138, 460) ∷ (139, 461) ∷ (140, 462) ∷ [])
+abbrev pub state_350 : Row
+state_350 = at
+    ((409, 1, 85002596690545378064384) ∷ (410, 1, 85002596690545378064384) ∷ [])
+    ((98, begin_at 4 427 0 67108864) ∷ (141, begin_at 1 410 1 8388608) ∷
+    (142, begin_at 2 423 0 34368126976) ∷ (143, begin_at 3 425 0 34368126976) ∷ [])
+    ((23, (0, 482)) ∷ (41, (0, 69)) ∷ (42, (0, 70)) ∷ (43, (0, 71)) ∷ (44, (0, 72)) ∷
+    (45, (0, 73)) ∷ (46, (0, 74)) ∷ (47, (0, 75)) ∷ (48, (0, 76)) ∷ (49, (0, 77)) ∷ (50, (0, 78)) ∷
+    (51, (0, 79)) ∷ (52, (0, 80)) ∷ (53, (0, 81)) ∷ (54, (0, 82)) ∷ (55, (0, 83)) ∷ (56, (0, 84)) ∷
+    (57, (0, 85)) ∷ (58, (0, 86)) ∷ (59, (0, 87)) ∷ (60, (0, 88)) ∷ (61, (0, 89)) ∷ (62, (0, 90)) ∷
+    (63, (0, 91)) ∷ (64, (0, 92)) ∷ (65, (0, 93)) ∷ (71, (0, 94)) ∷ (72, (0, 95)) ∷ [])
+    ((98, 478) ∷ (141, 479) ∷ (142, 480) ∷ (143, 481) ∷ [])
     []
 
 -- after ProgramText ^let ^fun Variable Interface Union' ^-> ^<
-abbrev pub state_338 : Row
-state_338 = at
-    ((385, 1, 1328165573027847731200) ∷ (386, 1, 1328165573027847731200) ∷ [])
-    ((94, begin_at 2 410 0 111833385397125251072) ∷ (141, begin_at 1 385 1 111833385397125251072) ∷
-    [])
-    ((17, (1, 466)) ∷ (39, (0, 67)) ∷ (40, (0, 68)) ∷ (41, (0, 69)) ∷ (42, (0, 70)) ∷
-    (43, (0, 71)) ∷ (44, (0, 72)) ∷ (45, (0, 73)) ∷ (46, (0, 74)) ∷ (47, (0, 75)) ∷ (48, (0, 76)) ∷
-    (49, (0, 77)) ∷ (50, (0, 78)) ∷ (51, (0, 79)) ∷ (52, (0, 80)) ∷ (53, (0, 81)) ∷ (54, (0, 82)) ∷
-    (55, (0, 83)) ∷ (56, (0, 84)) ∷ (57, (0, 85)) ∷ (58, (0, 86)) ∷ (59, (0, 87)) ∷ (65, (0, 88)) ∷
-    (66, (0, 89)) ∷ [])
-    ((94, 464) ∷ (141, 465) ∷ [])
+abbrev pub state_351 : Row
+state_351 = at
+    ((399, 1, 85002596690545378064384) ∷ (400, 1, 85002596690545378064384) ∷ [])
+    ((98, begin_at 2 428 0 7157336698400316588032) ∷
+    (144, begin_at 1 399 1 7157336698400316588032) ∷ [])
+    ((18, (1, 485)) ∷ (41, (0, 69)) ∷ (42, (0, 70)) ∷ (43, (0, 71)) ∷ (44, (0, 72)) ∷
+    (45, (0, 73)) ∷ (46, (0, 74)) ∷ (47, (0, 75)) ∷ (48, (0, 76)) ∷ (49, (0, 77)) ∷ (50, (0, 78)) ∷
+    (51, (0, 79)) ∷ (52, (0, 80)) ∷ (53, (0, 81)) ∷ (54, (0, 82)) ∷ (55, (0, 83)) ∷ (56, (0, 84)) ∷
+    (57, (0, 85)) ∷ (58, (0, 86)) ∷ (59, (0, 87)) ∷ (60, (0, 88)) ∷ (61, (0, 89)) ∷ (62, (0, 90)) ∷
+    (63, (0, 91)) ∷ (64, (0, 92)) ∷ (65, (0, 93)) ∷ (71, (0, 94)) ∷ (72, (0, 95)) ∷ [])
+    ((98, 483) ∷ (144, 484) ∷ [])
     []
 
 -- after ProgramText ^let ^fun Variable Interface Union' ^-> ^let
-abbrev pub state_339 : Row
-state_339 = at
-    ((317, 1, 1180591855488918159360) ∷ (320, 1, 2147483648) ∷ [])
-    ((54, begin_at 1 317 1 33554432) ∷ (55, begin_at 2 141 0 2181038080) ∷
-    (56, begin_at 2 140 0 2181038080) ∷ (57, begin_at 3 145 0 7549747200) ∷
-    (58, begin_at 3 144 0 7549747200) ∷ (59, begin_at 4 151 0 7549747200) ∷
-    (61, begin_at 4 150 0 7549747200) ∷ (95, begin_at 5 281 0 7549747200) ∷ [])
-    ((0, (0, 247)) ∷ (17, (1, 248)) ∷ (19, (1, 249)) ∷ (21, (1, 250)) ∷ (23, (1, 251)) ∷
-    (38, (0, 253)) ∷ (60, (0, 254)) ∷ (61, (0, 255)) ∷ (63, (0, 256)) ∷ (64, (0, 257)) ∷
-    (65, (0, 258)) ∷ (66, (0, 259)) ∷ [])
-    ((54, 467) ∷ (55, 234) ∷ (56, 235) ∷ (57, 236) ∷ (58, 237) ∷ (59, 238) ∷ (61, 239) ∷ (95, 240) ∷
+abbrev pub state_352 : Row
+state_352 = at
+    ((329, 1, 75594758153096221229056) ∷ (332, 1, 4294967296) ∷ [])
+    ((56, begin_at 1 329 1 67108864) ∷ (57, begin_at 2 145 0 4362076160) ∷
+    (58, begin_at 2 144 0 4362076160) ∷ (59, begin_at 3 149 0 15099494400) ∷
+    (60, begin_at 3 148 0 15099494400) ∷ (61, begin_at 4 155 0 15099494400) ∷
+    (63, begin_at 4 154 0 15099494400) ∷ (99, begin_at 5 293 0 15099494400) ∷ [])
+    ((0, (0, 259)) ∷ (18, (1, 260)) ∷ (20, (1, 261)) ∷ (22, (1, 262)) ∷ (24, (1, 263)) ∷
+    (40, (0, 265)) ∷ (66, (0, 266)) ∷ (67, (0, 267)) ∷ (69, (0, 268)) ∷ (70, (0, 269)) ∷
+    (71, (0, 270)) ∷ (72, (0, 271)) ∷ [])
+    ((56, 486) ∷ (57, 246) ∷ (58, 247) ∷ (59, 248) ∷ (60, 249) ∷ (61, 250) ∷ (63, 251) ∷ (99, 252) ∷
     [])
     []
 
 -- after ProgramText ^let ^fun Variable Interface Union' ^-> ^fun
-abbrev pub state_340 : Row
-state_340 = at
-    ((315, 1, 1180591855488918159360) ∷ (316, 1, 1180591855488918159360) ∷ [])
-    ((100, begin_at 1 315 1 141809345343678709761) ∷ [])
-    ((17, (1, 210)) ∷ (66, (0, 469)) ∷ [])
-    ((100, 468) ∷ [])
+abbrev pub state_353 : Row
+state_353 = at
+    ((327, 1, 75594758153096221229056) ∷ (328, 1, 75594758153096221229056) ∷ [])
+    ((104, begin_at 1 327 1 9075798085368928272385) ∷ [])
+    ((18, (1, 221)) ∷ (72, (0, 488)) ∷ [])
+    ((104, 487) ∷ [])
     []
 
 -- after ProgramText ^let ^fun Variable Interface Union' ^-> ^match
-abbrev pub state_341 : Row
-state_341 = at
-    ((311, 1, 1180591855488918159360) ∷ [])
-    ((109, begin_at 1 311 1 17592186044416) ∷ (111, begin_at 2 319 0 17592186044416) ∷
-    (112, begin_at 3 324 0 17592186077184) ∷ (113, begin_at 3 323 0 17592186077184) ∷
-    (114, begin_at 4 328 0 17592186093568) ∷ (115, begin_at 4 327 0 17592186093568) ∷
-    (116, begin_at 5 332 0 17592186093568) ∷ (117, begin_at 5 331 0 17592244828160) ∷
-    (118, begin_at 6 340 0 17729683781632) ∷ (119, begin_at 6 339 0 17729683781632) ∷
-    (120, begin_at 7 344 0 17731562829824) ∷ (121, begin_at 7 343 0 17731562829824) ∷
-    (122, begin_at 8 352 0 27039329461270528) ∷ (123, begin_at 8 351 0 27039329461270528) ∷
-    (124, begin_at 9 365 0 104942896248687097856) ∷ (125, begin_at 9 364 0 104942896248687097856) ∷
-    (126, begin_at 10 369 0 104942896283046836224) ∷
-    (131, begin_at 10 368 0 104942896283046836224) ∷
-    (133, begin_at 11 381 0 104942896283046836224) ∷
-    (134, begin_at 12 384 0 104942896283046836224) ∷ [])
-    ((17, (1, 335)) ∷ (19, (1, 336)) ∷ (21, (1, 337)) ∷ (23, (1, 338)) ∷ (40, (1, 448)) ∷
-    (41, (1, 340)) ∷ (43, (1, 341)) ∷ (45, (1, 449)) ∷ (48, (1, 343)) ∷ (49, (1, 344)) ∷
-    (50, (1, 345)) ∷ (55, (0, 346)) ∷ (56, (0, 347)) ∷ (57, (0, 348)) ∷ (58, (0, 349)) ∷
-    (59, (0, 350)) ∷ (60, (0, 351)) ∷ (61, (0, 352)) ∷ (63, (0, 353)) ∷ (64, (0, 354)) ∷
-    (66, (0, 355)) ∷ [])
-    ((109, 470) ∷ (111, 446) ∷ (112, 317) ∷ (113, 318) ∷ (114, 319) ∷ (115, 320) ∷ (116, 321) ∷
-    (117, 322) ∷ (118, 323) ∷ (119, 324) ∷ (120, 325) ∷ (121, 326) ∷ (122, 327) ∷ (123, 328) ∷
-    (124, 329) ∷ (125, 330) ∷ (126, 331) ∷ (131, 332) ∷ (133, 333) ∷ (134, 334) ∷ [])
+abbrev pub state_354 : Row
+state_354 = at
+    ((323, 1, 75594758153096221229056) ∷ [])
+    ((113, begin_at 1 323 1 70368744177664) ∷ (115, begin_at 2 331 0 70368744177664) ∷
+    (116, begin_at 3 336 0 70368744210432) ∷ (117, begin_at 3 335 0 70368744210432) ∷
+    (118, begin_at 4 340 0 70368744226816) ∷ (119, begin_at 4 339 0 70368744226816) ∷
+    (120, begin_at 5 344 0 70368744226816) ∷ (121, begin_at 5 343 0 70368861681664) ∷
+    (122, begin_at 6 352 0 70918617495552) ∷ (123, begin_at 6 351 0 70918617495552) ∷
+    (124, begin_at 7 356 0 70922375591936) ∷ (125, begin_at 7 355 0 70922375591936) ∷
+    (126, begin_at 8 364 0 108157313700919296) ∷ (127, begin_at 8 363 0 108157313700919296) ∷
+    (128, begin_at 9 379 0 6714723000143983212544) ∷
+    (129, begin_at 9 378 0 6714723000143983212544) ∷
+    (134, begin_at 10 382 0 6714723000350141773824) ∷
+    (136, begin_at 11 395 0 6714723000350141773824) ∷
+    (137, begin_at 12 398 0 6714723000350141773824) ∷ [])
+    ((18, (1, 348)) ∷ (20, (1, 349)) ∷ (22, (1, 350)) ∷ (24, (1, 351)) ∷ (42, (1, 467)) ∷
+    (43, (1, 353)) ∷ (45, (1, 354)) ∷ (47, (1, 468)) ∷ (50, (1, 356)) ∷ (51, (1, 357)) ∷
+    (52, (1, 358)) ∷ (57, (0, 359)) ∷ (58, (0, 360)) ∷ (59, (0, 361)) ∷ (60, (0, 362)) ∷
+    (61, (0, 363)) ∷ (62, (0, 364)) ∷ (63, (0, 365)) ∷ (66, (0, 366)) ∷ (67, (0, 367)) ∷
+    (69, (0, 368)) ∷ (70, (0, 369)) ∷ (72, (0, 370)) ∷ [])
+    ((113, 489) ∷ (115, 465) ∷ (116, 331) ∷ (117, 332) ∷ (118, 333) ∷ (119, 334) ∷ (120, 335) ∷
+    (121, 336) ∷ (122, 337) ∷ (123, 338) ∷ (124, 339) ∷ (125, 340) ∷ (126, 341) ∷ (127, 342) ∷
+    (128, 343) ∷ (129, 344) ∷ (134, 345) ∷ (136, 346) ∷ (137, 347) ∷ [])
     []
 
 -- after ProgramText ^let ^fun Variable Interface Union' ^-> ^if
-abbrev pub state_342 : Row
-state_342 = at
-    ((318, 1, 1180591855488918159360) ∷ (321, 1, 2147483648) ∷ [])
-    ((109, begin_at 1 318 1 70368744177664) ∷ (111, begin_at 2 319 0 70368744177664) ∷
-    (112, begin_at 3 324 0 70368744210432) ∷ (113, begin_at 3 323 0 70368744210432) ∷
-    (114, begin_at 4 328 0 70368744226816) ∷ (115, begin_at 4 327 0 70368744226816) ∷
-    (116, begin_at 5 332 0 70368744226816) ∷ (117, begin_at 5 331 0 70368802961408) ∷
-    (118, begin_at 6 340 0 70506241914880) ∷ (119, begin_at 6 339 0 70506241914880) ∷
-    (120, begin_at 7 344 0 70508120963072) ∷ (121, begin_at 7 343 0 70508120963072) ∷
-    (122, begin_at 8 352 0 27092106019403776) ∷ (123, begin_at 8 351 0 27092106019403776) ∷
-    (124, begin_at 9 365 0 104942949025245231104) ∷ (125, begin_at 9 364 0 104942949025245231104) ∷
-    (126, begin_at 10 369 0 104942949059604969472) ∷
-    (131, begin_at 10 368 0 104942949059604969472) ∷
-    (133, begin_at 11 381 0 104942949059604969472) ∷
-    (134, begin_at 12 384 0 104942949059604969472) ∷ [])
-    ((17, (1, 335)) ∷ (19, (1, 336)) ∷ (21, (1, 337)) ∷ (23, (1, 338)) ∷ (40, (1, 448)) ∷
-    (41, (1, 340)) ∷ (43, (1, 341)) ∷ (45, (1, 449)) ∷ (48, (1, 343)) ∷ (49, (1, 344)) ∷
-    (50, (1, 345)) ∷ (55, (0, 346)) ∷ (56, (0, 347)) ∷ (57, (0, 348)) ∷ (58, (0, 349)) ∷
-    (59, (0, 350)) ∷ (60, (0, 351)) ∷ (61, (0, 352)) ∷ (63, (0, 353)) ∷ (64, (0, 354)) ∷
-    (66, (0, 355)) ∷ [])
-    ((109, 471) ∷ (111, 446) ∷ (112, 317) ∷ (113, 318) ∷ (114, 319) ∷ (115, 320) ∷ (116, 321) ∷
-    (117, 322) ∷ (118, 323) ∷ (119, 324) ∷ (120, 325) ∷ (121, 326) ∷ (122, 327) ∷ (123, 328) ∷
-    (124, 329) ∷ (125, 330) ∷ (126, 331) ∷ (131, 332) ∷ (133, 333) ∷ (134, 334) ∷ [])
+abbrev pub state_355 : Row
+state_355 = at
+    ((330, 1, 75594758153096221229056) ∷ (333, 1, 4294967296) ∷ [])
+    ((113, begin_at 1 330 1 281474976710656) ∷ (115, begin_at 2 331 0 281474976710656) ∷
+    (116, begin_at 3 336 0 281474976743424) ∷ (117, begin_at 3 335 0 281474976743424) ∷
+    (118, begin_at 4 340 0 281474976759808) ∷ (119, begin_at 4 339 0 281474976759808) ∷
+    (120, begin_at 5 344 0 281474976759808) ∷ (121, begin_at 5 343 0 281475094214656) ∷
+    (122, begin_at 6 352 0 282024850028544) ∷ (123, begin_at 6 351 0 282024850028544) ∷
+    (124, begin_at 7 356 0 282028608124928) ∷ (125, begin_at 7 355 0 282028608124928) ∷
+    (126, begin_at 8 364 0 108368419933452288) ∷ (127, begin_at 8 363 0 108368419933452288) ∷
+    (128, begin_at 9 379 0 6714723211250215745536) ∷
+    (129, begin_at 9 378 0 6714723211250215745536) ∷
+    (134, begin_at 10 382 0 6714723211456374306816) ∷
+    (136, begin_at 11 395 0 6714723211456374306816) ∷
+    (137, begin_at 12 398 0 6714723211456374306816) ∷ [])
+    ((18, (1, 348)) ∷ (20, (1, 349)) ∷ (22, (1, 350)) ∷ (24, (1, 351)) ∷ (42, (1, 467)) ∷
+    (43, (1, 353)) ∷ (45, (1, 354)) ∷ (47, (1, 468)) ∷ (50, (1, 356)) ∷ (51, (1, 357)) ∷
+    (52, (1, 358)) ∷ (57, (0, 359)) ∷ (58, (0, 360)) ∷ (59, (0, 361)) ∷ (60, (0, 362)) ∷
+    (61, (0, 363)) ∷ (62, (0, 364)) ∷ (63, (0, 365)) ∷ (66, (0, 366)) ∷ (67, (0, 367)) ∷
+    (69, (0, 368)) ∷ (70, (0, 369)) ∷ (72, (0, 370)) ∷ [])
+    ((113, 490) ∷ (115, 465) ∷ (116, 331) ∷ (117, 332) ∷ (118, 333) ∷ (119, 334) ∷ (120, 335) ∷
+    (121, 336) ∷ (122, 337) ∷ (123, 338) ∷ (124, 339) ∷ (125, 340) ∷ (126, 341) ∷ (127, 342) ∷
+    (128, 343) ∷ (129, 344) ∷ (134, 345) ∷ (136, 346) ∷ (137, 347) ∷ [])
     []
 
 -- after ProgramText ^let ^fun Variable Interface Union' ^-> ^try
-abbrev pub state_343 : Row
-state_343 = at
-    ((312, 1, 1180591855488918159360) ∷ [])
-    ((109, begin_at 1 312 1 17592186044416) ∷ (111, begin_at 2 319 0 17592186044416) ∷
-    (112, begin_at 3 324 0 17592186077184) ∷ (113, begin_at 3 323 0 17592186077184) ∷
-    (114, begin_at 4 328 0 17592186093568) ∷ (115, begin_at 4 327 0 17592186093568) ∷
-    (116, begin_at 5 332 0 17592186093568) ∷ (117, begin_at 5 331 0 17592244828160) ∷
-    (118, begin_at 6 340 0 17729683781632) ∷ (119, begin_at 6 339 0 17729683781632) ∷
-    (120, begin_at 7 344 0 17731562829824) ∷ (121, begin_at 7 343 0 17731562829824) ∷
-    (122, begin_at 8 352 0 27039329461270528) ∷ (123, begin_at 8 351 0 27039329461270528) ∷
-    (124, begin_at 9 365 0 104942896248687097856) ∷ (125, begin_at 9 364 0 104942896248687097856) ∷
-    (126, begin_at 10 369 0 104942896283046836224) ∷
-    (131, begin_at 10 368 0 104942896283046836224) ∷
-    (133, begin_at 11 381 0 104942896283046836224) ∷
-    (134, begin_at 12 384 0 104942896283046836224) ∷ [])
-    ((17, (1, 335)) ∷ (19, (1, 336)) ∷ (21, (1, 337)) ∷ (23, (1, 338)) ∷ (40, (1, 448)) ∷
-    (41, (1, 340)) ∷ (43, (1, 341)) ∷ (45, (1, 449)) ∷ (48, (1, 343)) ∷ (49, (1, 344)) ∷
-    (50, (1, 345)) ∷ (55, (0, 346)) ∷ (56, (0, 347)) ∷ (57, (0, 348)) ∷ (58, (0, 349)) ∷
-    (59, (0, 350)) ∷ (60, (0, 351)) ∷ (61, (0, 352)) ∷ (63, (0, 353)) ∷ (64, (0, 354)) ∷
-    (66, (0, 355)) ∷ [])
-    ((109, 472) ∷ (111, 446) ∷ (112, 317) ∷ (113, 318) ∷ (114, 319) ∷ (115, 320) ∷ (116, 321) ∷
-    (117, 322) ∷ (118, 323) ∷ (119, 324) ∷ (120, 325) ∷ (121, 326) ∷ (122, 327) ∷ (123, 328) ∷
-    (124, 329) ∷ (125, 330) ∷ (126, 331) ∷ (131, 332) ∷ (133, 333) ∷ (134, 334) ∷ [])
+abbrev pub state_356 : Row
+state_356 = at
+    ((324, 1, 75594758153096221229056) ∷ [])
+    ((113, begin_at 1 324 1 70368744177664) ∷ (115, begin_at 2 331 0 70368744177664) ∷
+    (116, begin_at 3 336 0 70368744210432) ∷ (117, begin_at 3 335 0 70368744210432) ∷
+    (118, begin_at 4 340 0 70368744226816) ∷ (119, begin_at 4 339 0 70368744226816) ∷
+    (120, begin_at 5 344 0 70368744226816) ∷ (121, begin_at 5 343 0 70368861681664) ∷
+    (122, begin_at 6 352 0 70918617495552) ∷ (123, begin_at 6 351 0 70918617495552) ∷
+    (124, begin_at 7 356 0 70922375591936) ∷ (125, begin_at 7 355 0 70922375591936) ∷
+    (126, begin_at 8 364 0 108157313700919296) ∷ (127, begin_at 8 363 0 108157313700919296) ∷
+    (128, begin_at 9 379 0 6714723000143983212544) ∷
+    (129, begin_at 9 378 0 6714723000143983212544) ∷
+    (134, begin_at 10 382 0 6714723000350141773824) ∷
+    (136, begin_at 11 395 0 6714723000350141773824) ∷
+    (137, begin_at 12 398 0 6714723000350141773824) ∷ [])
+    ((18, (1, 348)) ∷ (20, (1, 349)) ∷ (22, (1, 350)) ∷ (24, (1, 351)) ∷ (42, (1, 467)) ∷
+    (43, (1, 353)) ∷ (45, (1, 354)) ∷ (47, (1, 468)) ∷ (50, (1, 356)) ∷ (51, (1, 357)) ∷
+    (52, (1, 358)) ∷ (57, (0, 359)) ∷ (58, (0, 360)) ∷ (59, (0, 361)) ∷ (60, (0, 362)) ∷
+    (61, (0, 363)) ∷ (62, (0, 364)) ∷ (63, (0, 365)) ∷ (66, (0, 366)) ∷ (67, (0, 367)) ∷
+    (69, (0, 368)) ∷ (70, (0, 369)) ∷ (72, (0, 370)) ∷ [])
+    ((113, 491) ∷ (115, 465) ∷ (116, 331) ∷ (117, 332) ∷ (118, 333) ∷ (119, 334) ∷ (120, 335) ∷
+    (121, 336) ∷ (122, 337) ∷ (123, 338) ∷ (124, 339) ∷ (125, 340) ∷ (126, 341) ∷ (127, 342) ∷
+    (128, 343) ∷ (129, 344) ∷ (134, 345) ∷ (136, 346) ∷ (137, 347) ∷ [])
     []
 
 -- after ProgramText ^let ^fun Variable Interface Union' ^-> ^map
-abbrev pub state_344 : Row
-state_344 = at
-    ((313, 1, 1180591855488918159360) ∷ [])
-    ((109, begin_at 1 313 1 17592186044416) ∷ (111, begin_at 2 319 0 17592186044416) ∷
-    (112, begin_at 3 324 0 17592186077184) ∷ (113, begin_at 3 323 0 17592186077184) ∷
-    (114, begin_at 4 328 0 17592186093568) ∷ (115, begin_at 4 327 0 17592186093568) ∷
-    (116, begin_at 5 332 0 17592186093568) ∷ (117, begin_at 5 331 0 17592244828160) ∷
-    (118, begin_at 6 340 0 17729683781632) ∷ (119, begin_at 6 339 0 17729683781632) ∷
-    (120, begin_at 7 344 0 17731562829824) ∷ (121, begin_at 7 343 0 17731562829824) ∷
-    (122, begin_at 8 352 0 27039329461270528) ∷ (123, begin_at 8 351 0 27039329461270528) ∷
-    (124, begin_at 9 365 0 104942896248687097856) ∷ (125, begin_at 9 364 0 104942896248687097856) ∷
-    (126, begin_at 10 369 0 104942896283046836224) ∷
-    (131, begin_at 10 368 0 104942896283046836224) ∷
-    (133, begin_at 11 381 0 104942896283046836224) ∷
-    (134, begin_at 12 384 0 104942896283046836224) ∷ [])
-    ((17, (1, 335)) ∷ (19, (1, 336)) ∷ (21, (1, 337)) ∷ (23, (1, 338)) ∷ (40, (1, 448)) ∷
-    (41, (1, 340)) ∷ (43, (1, 341)) ∷ (45, (1, 449)) ∷ (48, (1, 343)) ∷ (49, (1, 344)) ∷
-    (50, (1, 345)) ∷ (55, (0, 346)) ∷ (56, (0, 347)) ∷ (57, (0, 348)) ∷ (58, (0, 349)) ∷
-    (59, (0, 350)) ∷ (60, (0, 351)) ∷ (61, (0, 352)) ∷ (63, (0, 353)) ∷ (64, (0, 354)) ∷
-    (66, (0, 355)) ∷ [])
-    ((109, 473) ∷ (111, 446) ∷ (112, 317) ∷ (113, 318) ∷ (114, 319) ∷ (115, 320) ∷ (116, 321) ∷
-    (117, 322) ∷ (118, 323) ∷ (119, 324) ∷ (120, 325) ∷ (121, 326) ∷ (122, 327) ∷ (123, 328) ∷
-    (124, 329) ∷ (125, 330) ∷ (126, 331) ∷ (131, 332) ∷ (133, 333) ∷ (134, 334) ∷ [])
+abbrev pub state_357 : Row
+state_357 = at
+    ((325, 1, 75594758153096221229056) ∷ [])
+    ((113, begin_at 1 325 1 70368744177664) ∷ (115, begin_at 2 331 0 70368744177664) ∷
+    (116, begin_at 3 336 0 70368744210432) ∷ (117, begin_at 3 335 0 70368744210432) ∷
+    (118, begin_at 4 340 0 70368744226816) ∷ (119, begin_at 4 339 0 70368744226816) ∷
+    (120, begin_at 5 344 0 70368744226816) ∷ (121, begin_at 5 343 0 70368861681664) ∷
+    (122, begin_at 6 352 0 70918617495552) ∷ (123, begin_at 6 351 0 70918617495552) ∷
+    (124, begin_at 7 356 0 70922375591936) ∷ (125, begin_at 7 355 0 70922375591936) ∷
+    (126, begin_at 8 364 0 108157313700919296) ∷ (127, begin_at 8 363 0 108157313700919296) ∷
+    (128, begin_at 9 379 0 6714723000143983212544) ∷
+    (129, begin_at 9 378 0 6714723000143983212544) ∷
+    (134, begin_at 10 382 0 6714723000350141773824) ∷
+    (136, begin_at 11 395 0 6714723000350141773824) ∷
+    (137, begin_at 12 398 0 6714723000350141773824) ∷ [])
+    ((18, (1, 348)) ∷ (20, (1, 349)) ∷ (22, (1, 350)) ∷ (24, (1, 351)) ∷ (42, (1, 467)) ∷
+    (43, (1, 353)) ∷ (45, (1, 354)) ∷ (47, (1, 468)) ∷ (50, (1, 356)) ∷ (51, (1, 357)) ∷
+    (52, (1, 358)) ∷ (57, (0, 359)) ∷ (58, (0, 360)) ∷ (59, (0, 361)) ∷ (60, (0, 362)) ∷
+    (61, (0, 363)) ∷ (62, (0, 364)) ∷ (63, (0, 365)) ∷ (66, (0, 366)) ∷ (67, (0, 367)) ∷
+    (69, (0, 368)) ∷ (70, (0, 369)) ∷ (72, (0, 370)) ∷ [])
+    ((113, 492) ∷ (115, 465) ∷ (116, 331) ∷ (117, 332) ∷ (118, 333) ∷ (119, 334) ∷ (120, 335) ∷
+    (121, 336) ∷ (122, 337) ∷ (123, 338) ∷ (124, 339) ∷ (125, 340) ∷ (126, 341) ∷ (127, 342) ∷
+    (128, 343) ∷ (129, 344) ∷ (134, 345) ∷ (136, 346) ∷ (137, 347) ∷ [])
     []
 
 -- after ProgramText ^let ^fun Variable Interface Union' ^-> ^transform
-abbrev pub state_345 : Row
-state_345 = at
-    ((314, 1, 1180591855488918159360) ∷ [])
-    ((109, begin_at 1 314 1 17592186044416) ∷ (111, begin_at 2 319 0 17592186044416) ∷
-    (112, begin_at 3 324 0 17592186077184) ∷ (113, begin_at 3 323 0 17592186077184) ∷
-    (114, begin_at 4 328 0 17592186093568) ∷ (115, begin_at 4 327 0 17592186093568) ∷
-    (116, begin_at 5 332 0 17592186093568) ∷ (117, begin_at 5 331 0 17592244828160) ∷
-    (118, begin_at 6 340 0 17729683781632) ∷ (119, begin_at 6 339 0 17729683781632) ∷
-    (120, begin_at 7 344 0 17731562829824) ∷ (121, begin_at 7 343 0 17731562829824) ∷
-    (122, begin_at 8 352 0 27039329461270528) ∷ (123, begin_at 8 351 0 27039329461270528) ∷
-    (124, begin_at 9 365 0 104942896248687097856) ∷ (125, begin_at 9 364 0 104942896248687097856) ∷
-    (126, begin_at 10 369 0 104942896283046836224) ∷
-    (131, begin_at 10 368 0 104942896283046836224) ∷
-    (133, begin_at 11 381 0 104942896283046836224) ∷
-    (134, begin_at 12 384 0 104942896283046836224) ∷ [])
-    ((17, (1, 335)) ∷ (19, (1, 336)) ∷ (21, (1, 337)) ∷ (23, (1, 338)) ∷ (40, (1, 448)) ∷
-    (41, (1, 340)) ∷ (43, (1, 341)) ∷ (45, (1, 449)) ∷ (48, (1, 343)) ∷ (49, (1, 344)) ∷
-    (50, (1, 345)) ∷ (55, (0, 346)) ∷ (56, (0, 347)) ∷ (57, (0, 348)) ∷ (58, (0, 349)) ∷
-    (59, (0, 350)) ∷ (60, (0, 351)) ∷ (61, (0, 352)) ∷ (63, (0, 353)) ∷ (64, (0, 354)) ∷
-    (66, (0, 355)) ∷ [])
-    ((109, 474) ∷ (111, 446) ∷ (112, 317) ∷ (113, 318) ∷ (114, 319) ∷ (115, 320) ∷ (116, 321) ∷
-    (117, 322) ∷ (118, 323) ∷ (119, 324) ∷ (120, 325) ∷ (121, 326) ∷ (122, 327) ∷ (123, 328) ∷
-    (124, 329) ∷ (125, 330) ∷ (126, 331) ∷ (131, 332) ∷ (133, 333) ∷ (134, 334) ∷ [])
+abbrev pub state_358 : Row
+state_358 = at
+    ((326, 1, 75594758153096221229056) ∷ [])
+    ((113, begin_at 1 326 1 70368744177664) ∷ (115, begin_at 2 331 0 70368744177664) ∷
+    (116, begin_at 3 336 0 70368744210432) ∷ (117, begin_at 3 335 0 70368744210432) ∷
+    (118, begin_at 4 340 0 70368744226816) ∷ (119, begin_at 4 339 0 70368744226816) ∷
+    (120, begin_at 5 344 0 70368744226816) ∷ (121, begin_at 5 343 0 70368861681664) ∷
+    (122, begin_at 6 352 0 70918617495552) ∷ (123, begin_at 6 351 0 70918617495552) ∷
+    (124, begin_at 7 356 0 70922375591936) ∷ (125, begin_at 7 355 0 70922375591936) ∷
+    (126, begin_at 8 364 0 108157313700919296) ∷ (127, begin_at 8 363 0 108157313700919296) ∷
+    (128, begin_at 9 379 0 6714723000143983212544) ∷
+    (129, begin_at 9 378 0 6714723000143983212544) ∷
+    (134, begin_at 10 382 0 6714723000350141773824) ∷
+    (136, begin_at 11 395 0 6714723000350141773824) ∷
+    (137, begin_at 12 398 0 6714723000350141773824) ∷ [])
+    ((18, (1, 348)) ∷ (20, (1, 349)) ∷ (22, (1, 350)) ∷ (24, (1, 351)) ∷ (42, (1, 467)) ∷
+    (43, (1, 353)) ∷ (45, (1, 354)) ∷ (47, (1, 468)) ∷ (50, (1, 356)) ∷ (51, (1, 357)) ∷
+    (52, (1, 358)) ∷ (57, (0, 359)) ∷ (58, (0, 360)) ∷ (59, (0, 361)) ∷ (60, (0, 362)) ∷
+    (61, (0, 363)) ∷ (62, (0, 364)) ∷ (63, (0, 365)) ∷ (66, (0, 366)) ∷ (67, (0, 367)) ∷
+    (69, (0, 368)) ∷ (70, (0, 369)) ∷ (72, (0, 370)) ∷ [])
+    ((113, 493) ∷ (115, 465) ∷ (116, 331) ∷ (117, 332) ∷ (118, 333) ∷ (119, 334) ∷ (120, 335) ∷
+    (121, 336) ∷ (122, 337) ∷ (123, 338) ∷ (124, 339) ∷ (125, 340) ∷ (126, 341) ∷ (127, 342) ∷
+    (128, 343) ∷ (129, 344) ∷ (134, 345) ∷ (136, 346) ∷ (137, 347) ∷ [])
     []
 
 -- after ProgramText ^let ^fun Variable Interface Union' ^-> 'not
-abbrev pub state_346 : Row
-state_346 = at
-    ((359, 1, 1180618877228340869120) ∷ [])
-    ((125, begin_at 1 359 1 1180618877228340869120) ∷
-    (126, begin_at 2 369 0 1180618877262700607488) ∷
-    (131, begin_at 2 368 0 1180618877262700607488) ∷
-    (133, begin_at 3 381 0 1180618877262700607488) ∷
-    (134, begin_at 4 384 0 1180618877262700607488) ∷ [])
-    ((17, (1, 335)) ∷ (19, (1, 336)) ∷ (21, (1, 337)) ∷ (23, (1, 338)) ∷ (60, (0, 351)) ∷
-    (61, (0, 352)) ∷ (63, (0, 353)) ∷ (64, (0, 354)) ∷ (66, (0, 355)) ∷ [])
-    ((125, 475) ∷ (126, 331) ∷ (131, 332) ∷ (133, 333) ∷ (134, 334) ∷ [])
+abbrev pub state_359 : Row
+state_359 = at
+    ((371, 1, 75594875247244727678976) ∷ [])
+    ((129, begin_at 1 371 1 75594875247244727678976) ∷
+    (134, begin_at 2 382 0 75594875247450886240256) ∷
+    (136, begin_at 3 395 0 75594875247450886240256) ∷
+    (137, begin_at 4 398 0 75594875247450886240256) ∷ [])
+    ((18, (1, 348)) ∷ (20, (1, 349)) ∷ (22, (1, 350)) ∷ (24, (1, 351)) ∷ (66, (0, 366)) ∷
+    (67, (0, 367)) ∷ (69, (0, 368)) ∷ (70, (0, 369)) ∷ (72, (0, 370)) ∷ [])
+    ((129, 494) ∷ (134, 345) ∷ (136, 346) ∷ (137, 347) ∷ [])
     []
 
 -- after ProgramText ^let ^fun Variable Interface Union' ^-> 'flatten
-abbrev pub state_347 : Row
-state_347 = at
-    ((360, 1, 1180618877228340869120) ∷ [])
-    ((125, begin_at 1 360 1 1180618877228340869120) ∷
-    (126, begin_at 2 369 0 1180618877262700607488) ∷
-    (131, begin_at 2 368 0 1180618877262700607488) ∷
-    (133, begin_at 3 381 0 1180618877262700607488) ∷
-    (134, begin_at 4 384 0 1180618877262700607488) ∷ [])
-    ((17, (1, 335)) ∷ (19, (1, 336)) ∷ (21, (1, 337)) ∷ (23, (1, 338)) ∷ (60, (0, 351)) ∷
-    (61, (0, 352)) ∷ (63, (0, 353)) ∷ (64, (0, 354)) ∷ (66, (0, 355)) ∷ [])
-    ((125, 476) ∷ (126, 331) ∷ (131, 332) ∷ (133, 333) ∷ (134, 334) ∷ [])
+abbrev pub state_360 : Row
+state_360 = at
+    ((372, 1, 75594875247244727678976) ∷ [])
+    ((129, begin_at 1 372 1 75594875247244727678976) ∷
+    (134, begin_at 2 382 0 75594875247450886240256) ∷
+    (136, begin_at 3 395 0 75594875247450886240256) ∷
+    (137, begin_at 4 398 0 75594875247450886240256) ∷ [])
+    ((18, (1, 348)) ∷ (20, (1, 349)) ∷ (22, (1, 350)) ∷ (24, (1, 351)) ∷ (66, (0, 366)) ∷
+    (67, (0, 367)) ∷ (69, (0, 368)) ∷ (70, (0, 369)) ∷ (72, (0, 370)) ∷ [])
+    ((129, 495) ∷ (134, 345) ∷ (136, 346) ∷ (137, 347) ∷ [])
     []
 
 -- after ProgramText ^let ^fun Variable Interface Union' ^-> 'int_of
-abbrev pub state_348 : Row
-state_348 = at
-    ((361, 1, 1180618877228340869120) ∷ [])
-    ((125, begin_at 1 361 1 1180618877228340869120) ∷
-    (126, begin_at 2 369 0 1180618877262700607488) ∷
-    (131, begin_at 2 368 0 1180618877262700607488) ∷
-    (133, begin_at 3 381 0 1180618877262700607488) ∷
-    (134, begin_at 4 384 0 1180618877262700607488) ∷ [])
-    ((17, (1, 335)) ∷ (19, (1, 336)) ∷ (21, (1, 337)) ∷ (23, (1, 338)) ∷ (60, (0, 351)) ∷
-    (61, (0, 352)) ∷ (63, (0, 353)) ∷ (64, (0, 354)) ∷ (66, (0, 355)) ∷ [])
-    ((125, 477) ∷ (126, 331) ∷ (131, 332) ∷ (133, 333) ∷ (134, 334) ∷ [])
+abbrev pub state_361 : Row
+state_361 = at
+    ((373, 1, 75594875247244727678976) ∷ [])
+    ((129, begin_at 1 373 1 75594875247244727678976) ∷
+    (134, begin_at 2 382 0 75594875247450886240256) ∷
+    (136, begin_at 3 395 0 75594875247450886240256) ∷
+    (137, begin_at 4 398 0 75594875247450886240256) ∷ [])
+    ((18, (1, 348)) ∷ (20, (1, 349)) ∷ (22, (1, 350)) ∷ (24, (1, 351)) ∷ (66, (0, 366)) ∷
+    (67, (0, 367)) ∷ (69, (0, 368)) ∷ (70, (0, 369)) ∷ (72, (0, 370)) ∷ [])
+    ((129, 496) ∷ (134, 345) ∷ (136, 346) ∷ (137, 347) ∷ [])
     []
 
 -- after ProgramText ^let ^fun Variable Interface Union' ^-> 'string_of
-abbrev pub state_349 : Row
-state_349 = at
-    ((362, 1, 1180618877228340869120) ∷ [])
-    ((125, begin_at 1 362 1 1180618877228340869120) ∷
-    (126, begin_at 2 369 0 1180618877262700607488) ∷
-    (131, begin_at 2 368 0 1180618877262700607488) ∷
-    (133, begin_at 3 381 0 1180618877262700607488) ∷
-    (134, begin_at 4 384 0 1180618877262700607488) ∷ [])
-    ((17, (1, 335)) ∷ (19, (1, 336)) ∷ (21, (1, 337)) ∷ (23, (1, 338)) ∷ (60, (0, 351)) ∷
-    (61, (0, 352)) ∷ (63, (0, 353)) ∷ (64, (0, 354)) ∷ (66, (0, 355)) ∷ [])
-    ((125, 478) ∷ (126, 331) ∷ (131, 332) ∷ (133, 333) ∷ (134, 334) ∷ [])
+abbrev pub state_362 : Row
+state_362 = at
+    ((374, 1, 75594875247244727678976) ∷ [])
+    ((129, begin_at 1 374 1 75594875247244727678976) ∷
+    (134, begin_at 2 382 0 75594875247450886240256) ∷
+    (136, begin_at 3 395 0 75594875247450886240256) ∷
+    (137, begin_at 4 398 0 75594875247450886240256) ∷ [])
+    ((18, (1, 348)) ∷ (20, (1, 349)) ∷ (22, (1, 350)) ∷ (24, (1, 351)) ∷ (66, (0, 366)) ∷
+    (67, (0, 367)) ∷ (69, (0, 368)) ∷ (70, (0, 369)) ∷ (72, (0, 370)) ∷ [])
+    ((129, 497) ∷ (134, 345) ∷ (136, 346) ∷ (137, 347) ∷ [])
+    []
+
+-- after ProgramText ^let ^fun Variable Interface Union' ^-> 'min_of
+abbrev pub state_363 : Row
+state_363 = at
+    ((375, 1, 75594875247244727678976) ∷ [])
+    ((129, begin_at 1 375 1 75594875247244727678976) ∷
+    (134, begin_at 2 382 0 75594875247450886240256) ∷
+    (136, begin_at 3 395 0 75594875247450886240256) ∷
+    (137, begin_at 4 398 0 75594875247450886240256) ∷ [])
+    ((18, (1, 348)) ∷ (20, (1, 349)) ∷ (22, (1, 350)) ∷ (24, (1, 351)) ∷ (66, (0, 366)) ∷
+    (67, (0, 367)) ∷ (69, (0, 368)) ∷ (70, (0, 369)) ∷ (72, (0, 370)) ∷ [])
+    ((129, 498) ∷ (134, 345) ∷ (136, 346) ∷ (137, 347) ∷ [])
+    []
+
+-- after ProgramText ^let ^fun Variable Interface Union' ^-> 'max_of
+abbrev pub state_364 : Row
+state_364 = at
+    ((376, 1, 75594875247244727678976) ∷ [])
+    ((129, begin_at 1 376 1 75594875247244727678976) ∷
+    (134, begin_at 2 382 0 75594875247450886240256) ∷
+    (136, begin_at 3 395 0 75594875247450886240256) ∷
+    (137, begin_at 4 398 0 75594875247450886240256) ∷ [])
+    ((18, (1, 348)) ∷ (20, (1, 349)) ∷ (22, (1, 350)) ∷ (24, (1, 351)) ∷ (66, (0, 366)) ∷
+    (67, (0, 367)) ∷ (69, (0, 368)) ∷ (70, (0, 369)) ∷ (72, (0, 370)) ∷ [])
+    ((129, 499) ∷ (134, 345) ∷ (136, 346) ∷ (137, 347) ∷ [])
     []
 
 -- after ProgramText ^let ^fun Variable Interface Union' ^-> 'raise
-abbrev pub state_350 : Row
-state_350 = at
-    ((363, 1, 1180618877228340869120) ∷ [])
-    ((125, begin_at 1 363 1 1180618877228340869120) ∷
-    (126, begin_at 2 369 0 1180618877262700607488) ∷
-    (131, begin_at 2 368 0 1180618877262700607488) ∷
-    (133, begin_at 3 381 0 1180618877262700607488) ∷
-    (134, begin_at 4 384 0 1180618877262700607488) ∷ [])
-    ((17, (1, 335)) ∷ (19, (1, 336)) ∷ (21, (1, 337)) ∷ (23, (1, 338)) ∷ (60, (0, 351)) ∷
-    (61, (0, 352)) ∷ (63, (0, 353)) ∷ (64, (0, 354)) ∷ (66, (0, 355)) ∷ [])
-    ((125, 479) ∷ (126, 331) ∷ (131, 332) ∷ (133, 333) ∷ (134, 334) ∷ [])
+abbrev pub state_365 : Row
+state_365 = at
+    ((377, 1, 75594875247244727678976) ∷ [])
+    ((129, begin_at 1 377 1 75594875247244727678976) ∷
+    (134, begin_at 2 382 0 75594875247450886240256) ∷
+    (136, begin_at 3 395 0 75594875247450886240256) ∷
+    (137, begin_at 4 398 0 75594875247450886240256) ∷ [])
+    ((18, (1, 348)) ∷ (20, (1, 349)) ∷ (22, (1, 350)) ∷ (24, (1, 351)) ∷ (66, (0, 366)) ∷
+    (67, (0, 367)) ∷ (69, (0, 368)) ∷ (70, (0, 369)) ∷ (72, (0, 370)) ∷ [])
+    ((129, 500) ∷ (134, 345) ∷ (136, 346) ∷ (137, 347) ∷ [])
     []
 
 -- after ProgramText ^let ^fun Variable Interface Union' ^-> Int
-abbrev pub state_351 : Row
-state_351 = at
-    ((387, 1, 1328165573027847731200) ∷ [])
+abbrev pub state_366 : Row
+state_366 = at
+    ((401, 1, 85002596690545378064384) ∷ [])
     []
     []
     []
-    ((387, 1328165573027847731200) ∷ [])
+    ((401, 85002596690545378064384) ∷ [])
 
 -- after ProgramText ^let ^fun Variable Interface Union' ^-> Char1
-abbrev pub state_352 : Row
-state_352 = at
-    ((380, 1, 1328165573027847731200) ∷ [])
+abbrev pub state_367 : Row
+state_367 = at
+    ((394, 1, 85002596690545378064384) ∷ [])
     []
     []
     []
-    ((380, 1328165573027847731200) ∷ [])
+    ((394, 85002596690545378064384) ∷ [])
 
 -- after ProgramText ^let ^fun Variable Interface Union' ^-> Text
-abbrev pub state_353 : Row
-state_353 = at
-    ((388, 1, 1328165573027847731200) ∷ [])
+abbrev pub state_368 : Row
+state_368 = at
+    ((402, 1, 85002596690545378064384) ∷ [])
     []
     []
     []
-    ((388, 1328165573027847731200) ∷ [])
+    ((402, 85002596690545378064384) ∷ [])
 
 -- after ProgramText ^let ^fun Variable Interface Union' ^-> Atom
-abbrev pub state_354 : Row
-state_354 = at
-    ((389, 1, 1328165573027847731200) ∷ [])
+abbrev pub state_369 : Row
+state_369 = at
+    ((403, 1, 85002596690545378064384) ∷ [])
     []
     []
     []
-    ((389, 1328165573027847731200) ∷ [])
+    ((403, 85002596690545378064384) ∷ [])
 
 -- after ProgramText ^let ^fun Variable Interface Union' ^-> Variable
-abbrev pub state_355 : Row
-state_355 = at
-    ((390, 1, 1328165573027847731200) ∷ [])
+abbrev pub state_370 : Row
+state_370 = at
+    ((404, 1, 85002596690545378064384) ∷ [])
     []
     []
     []
-    ((390, 1328165573027847731200) ∷ [])
+    ((404, 85002596690545378064384) ∷ [])
 
 -- after ProgramText ^let ^fun Variable Interface Meets' '| Meet'
-abbrev pub state_356 : Row
-state_356 = at
-    ((143, 3, 6755427396355200) ∷ [])
+abbrev pub state_371 : Row
+state_371 = at
+    ((147, 3, 27040345372492928) ∷ [])
     []
     []
     []
-    ((143, 6755427396355200) ∷ [])
+    ((147, 27040345372492928) ∷ [])
 
 -- after ProgramText ^let ^fun Variable Interface Meet' '| Meet'
-abbrev pub state_357 : Row
-state_357 = at
-    ((142, 3, 6755427396355200) ∷ [])
+abbrev pub state_372 : Row
+state_372 = at
+    ((146, 3, 27040345372492928) ∷ [])
     []
     []
     []
-    ((142, 6755427396355200) ∷ [])
+    ((146, 27040345372492928) ∷ [])
 
 -- after ProgramText ^let ^fun Variable Interface Signs' '\ Simple'
-abbrev pub state_358 : Row
-state_358 = at
-    ((149, 3, 6755432765064320) ∷ [])
+abbrev pub state_373 : Row
+state_373 = at
+    ((153, 3, 27040356109911168) ∷ [])
     []
     []
     []
-    ((149, 6755432765064320) ∷ [])
+    ((153, 27040356109911168) ∷ [])
 
 -- after ProgramText ^let ^fun Variable Interface Signs' '& Simple'
-abbrev pub state_359 : Row
-state_359 = at
-    ((148, 3, 6755432765064320) ∷ [])
+abbrev pub state_374 : Row
+state_374 = at
+    ((152, 3, 27040356109911168) ∷ [])
     []
     []
     []
-    ((148, 6755432765064320) ∷ [])
+    ((152, 27040356109911168) ∷ [])
 
 -- after ProgramText ^let ^fun Variable Interface Simple' '\ Simple'
-abbrev pub state_360 : Row
-state_360 = at
-    ((147, 3, 6755432765064320) ∷ [])
+abbrev pub state_375 : Row
+state_375 = at
+    ((151, 3, 27040356109911168) ∷ [])
     []
     []
     []
-    ((147, 6755432765064320) ∷ [])
+    ((151, 27040356109911168) ∷ [])
 
 -- after ProgramText ^let ^fun Variable Interface Simple' '& Simple'
-abbrev pub state_361 : Row
-state_361 = at
-    ((146, 3, 6755432765064320) ∷ [])
+abbrev pub state_376 : Row
+state_376 = at
+    ((150, 3, 27040356109911168) ∷ [])
     []
     []
     []
-    ((146, 6755432765064320) ∷ [])
+    ((150, 27040356109911168) ∷ [])
 
 -- after ProgramText ^let ^fun Variable Interface ^( Tree' ')
-abbrev pub state_362 : Row
-state_362 = at
-    ((152, 3, 147573952348621243549) ∷ [])
+abbrev pub state_377 : Row
+state_377 = at
+    ((156, 3, 9444732964707424273565) ∷ [])
     []
     []
     []
-    ((152, 147573952348621243549) ∷ [])
+    ((156, 9444732964707424273565) ∷ [])
 
 -- after ProgramText ^let ^fun Variable Interface ^( Tree' ',
-abbrev pub state_363 : Row
-state_363 = at
-    ((154, 2, 8590196736) ∷ [])
-    ((49, begin_at 1 154 2 8590196736) ∷ (52, begin_at 2 131 0 2251808403881984) ∷
-    (53, begin_at 3 137 0 2251808403881984) ∷ (54, begin_at 3 136 0 2251808403882112) ∷
-    (55, begin_at 4 141 0 2251810551365760) ∷ (56, begin_at 4 140 0 2251810551365760) ∷
-    (57, begin_at 5 145 0 2251815920074880) ∷ (58, begin_at 5 144 0 2251815920074880) ∷
-    (59, begin_at 6 151 0 2251815920074880) ∷ (61, begin_at 6 150 0 2251815920074880) ∷
-    (95, begin_at 7 281 0 2251815920074880) ∷ [])
-    ((0, (0, 247)) ∷ (17, (1, 248)) ∷ (19, (1, 249)) ∷ (21, (1, 250)) ∷ (23, (1, 251)) ∷
-    (38, (0, 253)) ∷ (60, (0, 254)) ∷ (61, (0, 255)) ∷ (63, (0, 256)) ∷ (64, (0, 257)) ∷
-    (65, (0, 258)) ∷ (66, (0, 259)) ∷ [])
-    ((49, 480) ∷ (52, 275) ∷ (53, 276) ∷ (54, 277) ∷ (55, 234) ∷ (56, 235) ∷ (57, 236) ∷ (58, 237) ∷
-    (59, 238) ∷ (61, 239) ∷ (95, 240) ∷ [])
+abbrev pub state_378 : Row
+state_378 = at
+    ((158, 2, 17180393472) ∷ [])
+    ((51, begin_at 1 158 2 17180393472) ∷ (54, begin_at 2 135 0 9007216435134464) ∷
+    (55, begin_at 3 141 0 9007216435134464) ∷ (56, begin_at 3 140 0 9007216435134592) ∷
+    (57, begin_at 4 145 0 9007220730101888) ∷ (58, begin_at 4 144 0 9007220730101888) ∷
+    (59, begin_at 5 149 0 9007231467520128) ∷ (60, begin_at 5 148 0 9007231467520128) ∷
+    (61, begin_at 6 155 0 9007231467520128) ∷ (63, begin_at 6 154 0 9007231467520128) ∷
+    (99, begin_at 7 293 0 9007231467520128) ∷ [])
+    ((0, (0, 259)) ∷ (18, (1, 260)) ∷ (20, (1, 261)) ∷ (22, (1, 262)) ∷ (24, (1, 263)) ∷
+    (40, (0, 265)) ∷ (66, (0, 266)) ∷ (67, (0, 267)) ∷ (69, (0, 268)) ∷ (70, (0, 269)) ∷
+    (71, (0, 270)) ∷ (72, (0, 271)) ∷ [])
+    ((51, 501) ∷ (54, 287) ∷ (55, 288) ∷ (56, 289) ∷ (57, 246) ∷ (58, 247) ∷ (59, 248) ∷ (60, 249) ∷
+    (61, 250) ∷ (63, 251) ∷ (99, 252) ∷ [])
     []
 
 -- after ProgramText ^let ^fun Variable Interface ^( Arrow' 'where
-abbrev pub state_364 : Row
-state_364 = at
-    ((132, 2, 25774261248) ∷ [])
-    ((50, begin_at 1 132 2 4503625401631744) ∷ (51, begin_at 2 133 0 4503625401631744) ∷ [])
-    ((65, (0, 483)) ∷ [])
-    ((50, 481) ∷ (51, 482) ∷ [])
+abbrev pub state_379 : Row
+state_379 = at
+    ((136, 2, 1151060149248) ∷ [])
+    ((52, begin_at 1 136 2 18015549569631232) ∷ (53, begin_at 2 137 0 18015549569631232) ∷ [])
+    ((71, (0, 504)) ∷ [])
+    ((52, 502) ∷ (53, 503) ∷ [])
     []
 
 -- after ProgramText ^let ^fun Variable Interface ^( Union' ^->
-abbrev pub state_365 : Row
-state_365 = at
-    ((138, 2, 6755425215316992) ∷ (139, 2, 6755425215316992) ∷ [])
-    ((53, begin_at 1 139 2 6755425215316992) ∷ (54, begin_at 1 138 2 6755425215317120) ∷
-    (55, begin_at 2 141 0 6755427362800768) ∷ (56, begin_at 2 140 0 6755427362800768) ∷
-    (57, begin_at 3 145 0 6755432731509888) ∷ (58, begin_at 3 144 0 6755432731509888) ∷
-    (59, begin_at 4 151 0 6755432731509888) ∷ (61, begin_at 4 150 0 6755432731509888) ∷
-    (95, begin_at 5 281 0 6755432731509888) ∷ [])
-    ((0, (0, 247)) ∷ (17, (1, 248)) ∷ (19, (1, 249)) ∷ (21, (1, 250)) ∷ (23, (1, 251)) ∷
-    (38, (0, 253)) ∷ (60, (0, 254)) ∷ (61, (0, 255)) ∷ (63, (0, 256)) ∷ (64, (0, 257)) ∷
-    (65, (0, 258)) ∷ (66, (0, 259)) ∷ [])
-    ((53, 484) ∷ (54, 485) ∷ (55, 234) ∷ (56, 235) ∷ (57, 236) ∷ (58, 237) ∷ (59, 238) ∷ (61, 239) ∷
-    (95, 240) ∷ [])
+abbrev pub state_380 : Row
+state_380 = at
+    ((142, 2, 27022748824372224) ∷ (143, 2, 27022748824372224) ∷ [])
+    ((55, begin_at 1 143 2 27022748824372224) ∷ (56, begin_at 1 142 2 27022748824372352) ∷
+    (57, begin_at 2 145 0 27022753119339648) ∷ (58, begin_at 2 144 0 27022753119339648) ∷
+    (59, begin_at 3 149 0 27022763856757888) ∷ (60, begin_at 3 148 0 27022763856757888) ∷
+    (61, begin_at 4 155 0 27022763856757888) ∷ (63, begin_at 4 154 0 27022763856757888) ∷
+    (99, begin_at 5 293 0 27022763856757888) ∷ [])
+    ((0, (0, 259)) ∷ (18, (1, 260)) ∷ (20, (1, 261)) ∷ (22, (1, 262)) ∷ (24, (1, 263)) ∷
+    (40, (0, 265)) ∷ (66, (0, 266)) ∷ (67, (0, 267)) ∷ (69, (0, 268)) ∷ (70, (0, 269)) ∷
+    (71, (0, 270)) ∷ (72, (0, 271)) ∷ [])
+    ((55, 505) ∷ (56, 506) ∷ (57, 246) ∷ (58, 247) ∷ (59, 248) ∷ (60, 249) ∷ (61, 250) ∷ (63, 251) ∷
+    (99, 252) ∷ [])
     []
 
 -- after ProgramText ^let ^fun Variable Interface ^( Trees' ')
-abbrev pub state_366 : Row
-state_366 = at
-    ((153, 3, 147573952348621243549) ∷ [])
+abbrev pub state_381 : Row
+state_381 = at
+    ((157, 3, 9444732964707424273565) ∷ [])
     []
     []
     []
-    ((153, 147573952348621243549) ∷ [])
+    ((157, 9444732964707424273565) ∷ [])
 
 -- after ProgramText ^let ^fun Variable Interface ^( Trees' ',
-abbrev pub state_367 : Row
-state_367 = at
-    ((155, 2, 8590196736) ∷ [])
-    ((49, begin_at 1 155 2 8590196736) ∷ (52, begin_at 2 131 0 2251808403881984) ∷
-    (53, begin_at 3 137 0 2251808403881984) ∷ (54, begin_at 3 136 0 2251808403882112) ∷
-    (55, begin_at 4 141 0 2251810551365760) ∷ (56, begin_at 4 140 0 2251810551365760) ∷
-    (57, begin_at 5 145 0 2251815920074880) ∷ (58, begin_at 5 144 0 2251815920074880) ∷
-    (59, begin_at 6 151 0 2251815920074880) ∷ (61, begin_at 6 150 0 2251815920074880) ∷
-    (95, begin_at 7 281 0 2251815920074880) ∷ [])
-    ((0, (0, 247)) ∷ (17, (1, 248)) ∷ (19, (1, 249)) ∷ (21, (1, 250)) ∷ (23, (1, 251)) ∷
-    (38, (0, 253)) ∷ (60, (0, 254)) ∷ (61, (0, 255)) ∷ (63, (0, 256)) ∷ (64, (0, 257)) ∷
-    (65, (0, 258)) ∷ (66, (0, 259)) ∷ [])
-    ((49, 486) ∷ (52, 275) ∷ (53, 276) ∷ (54, 277) ∷ (55, 234) ∷ (56, 235) ∷ (57, 236) ∷ (58, 237) ∷
-    (59, 238) ∷ (61, 239) ∷ (95, 240) ∷ [])
+abbrev pub state_382 : Row
+state_382 = at
+    ((159, 2, 17180393472) ∷ [])
+    ((51, begin_at 1 159 2 17180393472) ∷ (54, begin_at 2 135 0 9007216435134464) ∷
+    (55, begin_at 3 141 0 9007216435134464) ∷ (56, begin_at 3 140 0 9007216435134592) ∷
+    (57, begin_at 4 145 0 9007220730101888) ∷ (58, begin_at 4 144 0 9007220730101888) ∷
+    (59, begin_at 5 149 0 9007231467520128) ∷ (60, begin_at 5 148 0 9007231467520128) ∷
+    (61, begin_at 6 155 0 9007231467520128) ∷ (63, begin_at 6 154 0 9007231467520128) ∷
+    (99, begin_at 7 293 0 9007231467520128) ∷ [])
+    ((0, (0, 259)) ∷ (18, (1, 260)) ∷ (20, (1, 261)) ∷ (22, (1, 262)) ∷ (24, (1, 263)) ∷
+    (40, (0, 265)) ∷ (66, (0, 266)) ∷ (67, (0, 267)) ∷ (69, (0, 268)) ∷ (70, (0, 269)) ∷
+    (71, (0, 270)) ∷ (72, (0, 271)) ∷ [])
+    ((51, 507) ∷ (54, 287) ∷ (55, 288) ∷ (56, 289) ∷ (57, 246) ∷ (58, 247) ∷ (59, 248) ∷ (60, 249) ∷
+    (61, 250) ∷ (63, 251) ∷ (99, 252) ∷ [])
     []
 
 -- after ProgramText ^let ^fun Variable Interface ^( Variable ':=
-abbrev pub state_368 : Row
-state_368 = at
-    ((283, 3, 147573952348621243549) ∷ [])
-    ((96, begin_at 1 283 3 262144) ∷ [])
-    ((19, (1, 488)) ∷ (60, (0, 489)) ∷ (61, (0, 490)) ∷ (63, (0, 491)) ∷ (64, (0, 492)) ∷ [])
-    ((96, 487) ∷ [])
+abbrev pub state_383 : Row
+state_383 = at
+    ((295, 3, 9444732964707424273565) ∷ [])
+    ((100, begin_at 1 295 3 524288) ∷ [])
+    ((20, (1, 509)) ∷ (66, (0, 510)) ∷ (67, (0, 511)) ∷ (69, (0, 512)) ∷ (70, (0, 513)) ∷ [])
+    ((100, 508) ∷ [])
     []
 
 -- after ProgramText ^let ^fun Variable Interface ^[ Reg' ']
-abbrev pub state_369 : Row
-state_369 = at
-    ((169, 3, 147573952348621243549) ∷ [])
+abbrev pub state_384 : Row
+state_384 = at
+    ((173, 3, 9444732964707424273565) ∷ [])
     []
     []
     []
-    ((169, 147573952348621243549) ∷ [])
+    ((173, 9444732964707424273565) ∷ [])
 
 -- after ProgramText ^let ^fun Variable Interface ^[ Alts' '|
-abbrev pub state_370 : Row
-state_370 = at
-    ((199, 2, 2148532224) ∷ [])
-    ((61, begin_at 6 232 0 146421031367945617437) ∷ (72, begin_at 1 199 2 2148532224) ∷
-    (73, begin_at 2 201 0 146421031362107146241) ∷ (74, begin_at 2 200 0 146421031362107146241) ∷
-    (75, begin_at 3 204 0 146421031362576908317) ∷ (76, begin_at 4 207 0 146421031362576908317) ∷
-    (82, begin_at 4 206 0 146421031362576908317) ∷ (83, begin_at 5 227 0 146421031367945617437) ∷
-    (84, begin_at 5 226 0 146421031367945617437) ∷ (85, begin_at 6 234 0 146421031367945617437) ∷
-    (95, begin_at 7 282 0 146421031367945617437) ∷ [])
-    ((0, (0, 247)) ∷ (17, (1, 293)) ∷ (19, (1, 249)) ∷ (21, (1, 250)) ∷ (23, (1, 251)) ∷
-    (38, (0, 253)) ∷ (60, (0, 254)) ∷ (61, (0, 255)) ∷ (62, (0, 295)) ∷ (63, (0, 256)) ∷
-    (64, (0, 257)) ∷ (65, (0, 258)) ∷ (66, (0, 296)) ∷ [])
-    ((61, 280) ∷ (72, 493) ∷ (73, 284) ∷ (74, 285) ∷ (75, 286) ∷ (76, 287) ∷ (82, 288) ∷ (83, 289) ∷
-    (84, 290) ∷ (85, 291) ∷ (95, 292) ∷ [])
+abbrev pub state_385 : Row
+state_385 = at
+    ((207, 2, 4297064448) ∷ [])
+    ((63, begin_at 6 240 0 9370945990559960137757) ∷ (76, begin_at 1 207 2 4297064448) ∷
+    (77, begin_at 2 209 0 9370945990548283195393) ∷ (78, begin_at 2 208 0 9370945990548283195393) ∷
+    (79, begin_at 3 212 0 9370945990549222719517) ∷ (80, begin_at 4 215 0 9370945990549222719517) ∷
+    (86, begin_at 4 214 0 9370945990549222719517) ∷ (87, begin_at 5 235 0 9370945990559960137757) ∷
+    (88, begin_at 5 234 0 9370945990559960137757) ∷ (89, begin_at 6 242 0 9370945990559960137757) ∷
+    (99, begin_at 7 294 0 9370945990559960137757) ∷ [])
+    ((0, (0, 259)) ∷ (18, (1, 305)) ∷ (20, (1, 261)) ∷ (22, (1, 262)) ∷ (24, (1, 263)) ∷
+    (40, (0, 265)) ∷ (66, (0, 266)) ∷ (67, (0, 267)) ∷ (68, (0, 307)) ∷ (69, (0, 268)) ∷
+    (70, (0, 269)) ∷ (71, (0, 270)) ∷ (72, (0, 308)) ∷ [])
+    ((63, 292) ∷ (76, 514) ∷ (77, 296) ∷ (78, 297) ∷ (79, 298) ∷ (80, 299) ∷ (86, 300) ∷ (87, 301) ∷
+    (88, 302) ∷ (89, 303) ∷ (99, 304) ∷ [])
     []
 
 -- after ProgramText ^let ^fun Variable Interface ^[ RSeq' '|
-abbrev pub state_371 : Row
-state_371 = at
-    ((198, 2, 2148532224) ∷ [])
-    ((61, begin_at 6 232 0 146421031367945617437) ∷ (72, begin_at 1 198 2 2148532224) ∷
-    (73, begin_at 2 201 0 146421031362107146241) ∷ (74, begin_at 2 200 0 146421031362107146241) ∷
-    (75, begin_at 3 204 0 146421031362576908317) ∷ (76, begin_at 4 207 0 146421031362576908317) ∷
-    (82, begin_at 4 206 0 146421031362576908317) ∷ (83, begin_at 5 227 0 146421031367945617437) ∷
-    (84, begin_at 5 226 0 146421031367945617437) ∷ (85, begin_at 6 234 0 146421031367945617437) ∷
-    (95, begin_at 7 282 0 146421031367945617437) ∷ [])
-    ((0, (0, 247)) ∷ (17, (1, 293)) ∷ (19, (1, 249)) ∷ (21, (1, 250)) ∷ (23, (1, 251)) ∷
-    (38, (0, 253)) ∷ (60, (0, 254)) ∷ (61, (0, 255)) ∷ (62, (0, 295)) ∷ (63, (0, 256)) ∷
-    (64, (0, 257)) ∷ (65, (0, 258)) ∷ (66, (0, 296)) ∷ [])
-    ((61, 280) ∷ (72, 494) ∷ (73, 284) ∷ (74, 285) ∷ (75, 286) ∷ (76, 287) ∷ (82, 288) ∷ (83, 289) ∷
-    (84, 290) ∷ (85, 291) ∷ (95, 292) ∷ [])
+abbrev pub state_386 : Row
+state_386 = at
+    ((206, 2, 4297064448) ∷ [])
+    ((63, begin_at 6 240 0 9370945990559960137757) ∷ (76, begin_at 1 206 2 4297064448) ∷
+    (77, begin_at 2 209 0 9370945990548283195393) ∷ (78, begin_at 2 208 0 9370945990548283195393) ∷
+    (79, begin_at 3 212 0 9370945990549222719517) ∷ (80, begin_at 4 215 0 9370945990549222719517) ∷
+    (86, begin_at 4 214 0 9370945990549222719517) ∷ (87, begin_at 5 235 0 9370945990559960137757) ∷
+    (88, begin_at 5 234 0 9370945990559960137757) ∷ (89, begin_at 6 242 0 9370945990559960137757) ∷
+    (99, begin_at 7 294 0 9370945990559960137757) ∷ [])
+    ((0, (0, 259)) ∷ (18, (1, 305)) ∷ (20, (1, 261)) ∷ (22, (1, 262)) ∷ (24, (1, 263)) ∷
+    (40, (0, 265)) ∷ (66, (0, 266)) ∷ (67, (0, 267)) ∷ (68, (0, 307)) ∷ (69, (0, 268)) ∷
+    (70, (0, 269)) ∷ (71, (0, 270)) ∷ (72, (0, 308)) ∷ [])
+    ((63, 292) ∷ (76, 515) ∷ (77, 296) ∷ (78, 297) ∷ (79, 298) ∷ (80, 299) ∷ (86, 300) ∷ (87, 301) ∷
+    (88, 302) ∷ (89, 303) ∷ (99, 304) ∷ [])
     []
 
 -- after ProgramText ^let ^fun Variable Interface ^[ RPosts' RPost'
-abbrev pub state_372 : Row
-state_372 = at
-    ((203, 2, 146421031362107146241) ∷ [])
+abbrev pub state_387 : Row
+state_387 = at
+    ((211, 2, 9370945990548283195393) ∷ [])
     []
     []
     []
-    ((203, 146421031362107146241) ∷ [])
+    ((211, 9370945990548283195393) ∷ [])
 
 -- after ProgramText ^let ^fun Variable Interface ^[ RPost' RPost'
-abbrev pub state_373 : Row
-state_373 = at
-    ((202, 2, 146421031362107146241) ∷ [])
+abbrev pub state_388 : Row
+state_388 = at
+    ((210, 2, 9370945990548283195393) ∷ [])
     []
     []
     []
-    ((202, 146421031362107146241) ∷ [])
+    ((210, 9370945990548283195393) ∷ [])
 
 -- after ProgramText ^let ^fun Variable Interface ^[ RItem' Postfix
-abbrev pub state_374 : Row
-state_374 = at
-    ((205, 2, 146421031362107408385) ∷ [])
+abbrev pub state_389 : Row
+state_389 = at
+    ((213, 2, 9370945990548283719681) ∷ [])
     []
     []
     []
-    ((205, 146421031362107408385) ∷ [])
+    ((213, 9370945990548283719681) ∷ [])
 
 -- after ProgramText ^let ^fun Variable Interface ^[ ISigns' '\
-abbrev pub state_375 : Row
-state_375 = at
-    ((231, 2, 146423283176349499549) ∷ [])
-    ((58, begin_at 1 231 2 146423283176349499549) ∷ (59, begin_at 2 151 0 146423283176349499549) ∷
-    (61, begin_at 2 150 0 146423283176349499549) ∷ (95, begin_at 3 281 0 146423283176349499549) ∷
+abbrev pub state_390 : Row
+state_390 = at
+    ((239, 2, 9370954997776395272349) ∷ [])
+    ((60, begin_at 1 239 2 9370954997776395272349) ∷ (61, begin_at 2 155 0 9370954997776395272349) ∷
+    (63, begin_at 2 154 0 9370954997776395272349) ∷ (99, begin_at 3 293 0 9370954997776395272349) ∷
     [])
-    ((0, (0, 247)) ∷ (17, (1, 248)) ∷ (19, (1, 249)) ∷ (21, (1, 250)) ∷ (23, (1, 251)) ∷
-    (38, (0, 253)) ∷ (60, (0, 254)) ∷ (61, (0, 255)) ∷ (63, (0, 256)) ∷ (64, (0, 257)) ∷
-    (65, (0, 258)) ∷ (66, (0, 259)) ∷ [])
-    ((58, 495) ∷ (59, 238) ∷ (61, 239) ∷ (95, 240) ∷ [])
+    ((0, (0, 259)) ∷ (18, (1, 260)) ∷ (20, (1, 261)) ∷ (22, (1, 262)) ∷ (24, (1, 263)) ∷
+    (40, (0, 265)) ∷ (66, (0, 266)) ∷ (67, (0, 267)) ∷ (69, (0, 268)) ∷ (70, (0, 269)) ∷
+    (71, (0, 270)) ∷ (72, (0, 271)) ∷ [])
+    ((60, 516) ∷ (61, 250) ∷ (63, 251) ∷ (99, 252) ∷ [])
     []
 
 -- after ProgramText ^let ^fun Variable Interface ^[ ISigns' '&
-abbrev pub state_376 : Row
-state_376 = at
-    ((230, 2, 146423283176349499549) ∷ [])
-    ((58, begin_at 1 230 2 146423283176349499549) ∷ (59, begin_at 2 151 0 146423283176349499549) ∷
-    (61, begin_at 2 150 0 146423283176349499549) ∷ (95, begin_at 3 281 0 146423283176349499549) ∷
+abbrev pub state_391 : Row
+state_391 = at
+    ((238, 2, 9370954997776395272349) ∷ [])
+    ((60, begin_at 1 238 2 9370954997776395272349) ∷ (61, begin_at 2 155 0 9370954997776395272349) ∷
+    (63, begin_at 2 154 0 9370954997776395272349) ∷ (99, begin_at 3 293 0 9370954997776395272349) ∷
     [])
-    ((0, (0, 247)) ∷ (17, (1, 248)) ∷ (19, (1, 249)) ∷ (21, (1, 250)) ∷ (23, (1, 251)) ∷
-    (38, (0, 253)) ∷ (60, (0, 254)) ∷ (61, (0, 255)) ∷ (63, (0, 256)) ∷ (64, (0, 257)) ∷
-    (65, (0, 258)) ∷ (66, (0, 259)) ∷ [])
-    ((58, 496) ∷ (59, 238) ∷ (61, 239) ∷ (95, 240) ∷ [])
+    ((0, (0, 259)) ∷ (18, (1, 260)) ∷ (20, (1, 261)) ∷ (22, (1, 262)) ∷ (24, (1, 263)) ∷
+    (40, (0, 265)) ∷ (66, (0, 266)) ∷ (67, (0, 267)) ∷ (69, (0, 268)) ∷ (70, (0, 269)) ∷
+    (71, (0, 270)) ∷ (72, (0, 271)) ∷ [])
+    ((60, 517) ∷ (61, 250) ∷ (63, 251) ∷ (99, 252) ∷ [])
     []
 
 -- after ProgramText ^let ^fun Variable Interface ^[ IBase' '\
-abbrev pub state_377 : Row
-state_377 = at
-    ((229, 2, 146423283176349499549) ∷ [])
-    ((58, begin_at 1 229 2 146423283176349499549) ∷ (59, begin_at 2 151 0 146423283176349499549) ∷
-    (61, begin_at 2 150 0 146423283176349499549) ∷ (95, begin_at 3 281 0 146423283176349499549) ∷
+abbrev pub state_392 : Row
+state_392 = at
+    ((237, 2, 9370954997776395272349) ∷ [])
+    ((60, begin_at 1 237 2 9370954997776395272349) ∷ (61, begin_at 2 155 0 9370954997776395272349) ∷
+    (63, begin_at 2 154 0 9370954997776395272349) ∷ (99, begin_at 3 293 0 9370954997776395272349) ∷
     [])
-    ((0, (0, 247)) ∷ (17, (1, 248)) ∷ (19, (1, 249)) ∷ (21, (1, 250)) ∷ (23, (1, 251)) ∷
-    (38, (0, 253)) ∷ (60, (0, 254)) ∷ (61, (0, 255)) ∷ (63, (0, 256)) ∷ (64, (0, 257)) ∷
-    (65, (0, 258)) ∷ (66, (0, 259)) ∷ [])
-    ((58, 497) ∷ (59, 238) ∷ (61, 239) ∷ (95, 240) ∷ [])
+    ((0, (0, 259)) ∷ (18, (1, 260)) ∷ (20, (1, 261)) ∷ (22, (1, 262)) ∷ (24, (1, 263)) ∷
+    (40, (0, 265)) ∷ (66, (0, 266)) ∷ (67, (0, 267)) ∷ (69, (0, 268)) ∷ (70, (0, 269)) ∷
+    (71, (0, 270)) ∷ (72, (0, 271)) ∷ [])
+    ((60, 518) ∷ (61, 250) ∷ (63, 251) ∷ (99, 252) ∷ [])
     []
 
 -- after ProgramText ^let ^fun Variable Interface ^[ IBase' '&
-abbrev pub state_378 : Row
-state_378 = at
-    ((228, 2, 146423283176349499549) ∷ [])
-    ((58, begin_at 1 228 2 146423283176349499549) ∷ (59, begin_at 2 151 0 146423283176349499549) ∷
-    (61, begin_at 2 150 0 146423283176349499549) ∷ (95, begin_at 3 281 0 146423283176349499549) ∷
+abbrev pub state_393 : Row
+state_393 = at
+    ((236, 2, 9370954997776395272349) ∷ [])
+    ((60, begin_at 1 236 2 9370954997776395272349) ∷ (61, begin_at 2 155 0 9370954997776395272349) ∷
+    (63, begin_at 2 154 0 9370954997776395272349) ∷ (99, begin_at 3 293 0 9370954997776395272349) ∷
     [])
-    ((0, (0, 247)) ∷ (17, (1, 248)) ∷ (19, (1, 249)) ∷ (21, (1, 250)) ∷ (23, (1, 251)) ∷
-    (38, (0, 253)) ∷ (60, (0, 254)) ∷ (61, (0, 255)) ∷ (63, (0, 256)) ∷ (64, (0, 257)) ∷
-    (65, (0, 258)) ∷ (66, (0, 259)) ∷ [])
-    ((58, 498) ∷ (59, 238) ∷ (61, 239) ∷ (95, 240) ∷ [])
+    ((0, (0, 259)) ∷ (18, (1, 260)) ∷ (20, (1, 261)) ∷ (22, (1, 262)) ∷ (24, (1, 263)) ∷
+    (40, (0, 265)) ∷ (66, (0, 266)) ∷ (67, (0, 267)) ∷ (69, (0, 268)) ∷ (70, (0, 269)) ∷
+    (71, (0, 270)) ∷ (72, (0, 271)) ∷ [])
+    ((60, 519) ∷ (61, 250) ∷ (63, 251) ∷ (99, 252) ∷ [])
     []
 
 -- after ProgramText ^let ^fun Variable Interface ^[ ^( Group'
-abbrev pub state_379 : Row
-state_379 = at
-    ((223, 1, 146421031362106359809) ∷ (224, 1, 146421031362106359809) ∷ [])
-    ((93, begin_at 1 224 1 146421031362106359809) ∷ [])
-    ((2, (0, 125)) ∷ (3, (0, 126)) ∷ (4, (0, 127)) ∷ (26, (0, 128)) ∷ (27, (0, 129)) ∷
-    (28, (0, 130)) ∷ [])
-    ((93, 499) ∷ [])
-    ((223, 146421031362106359809) ∷ [])
+abbrev pub state_394 : Row
+state_394 = at
+    ((231, 1, 9370945990548281622529) ∷ (232, 1, 9370945990548281622529) ∷ [])
+    ((97, begin_at 1 232 1 9370945990548281622529) ∷ [])
+    ((2, (0, 131)) ∷ (3, (0, 132)) ∷ (4, (0, 133)) ∷ (27, (0, 134)) ∷ (28, (0, 135)) ∷
+    (29, (0, 136)) ∷ [])
+    ((97, 520) ∷ [])
+    ((231, 9370945990548281622529) ∷ [])
 
 -- after ProgramText ^let ^fun Variable Interface ^[ ^( GReg'
-abbrev pub state_380 : Row
-state_380 = at
-    ((209, 2, 146421031362577170461) ∷ [])
+abbrev pub state_395 : Row
+state_395 = at
+    ((217, 2, 9370945990549223243805) ∷ [])
     []
-    ((18, (0, 500)) ∷ [])
+    ((19, (0, 521)) ∷ [])
     []
     []
 
 -- after ProgramText ^let ^fun Variable Interface ^[ ^( GAlts'
-abbrev pub state_381 : Row
-state_381 = at
-    ((211, 1, 262144) ∷ (216, 1, 2147745792) ∷ (217, 1, 2147745792) ∷ [])
+abbrev pub state_396 : Row
+state_396 = at
+    ((219, 1, 524288) ∷ (224, 1, 4295491584) ∷ (225, 1, 4295491584) ∷ [])
     []
-    ((31, (0, 501)) ∷ [])
+    ((32, (0, 522)) ∷ [])
     []
-    ((211, 262144) ∷ [])
+    ((219, 524288) ∷ [])
 
 -- after ProgramText ^let ^fun Variable Interface ^[ ^( GSeq'
-abbrev pub state_382 : Row
-state_382 = at
-    ((210, 1, 262144) ∷ (212, 1, 2147745792) ∷ (213, 1, 2147745792) ∷ [])
+abbrev pub state_397 : Row
+state_397 = at
+    ((218, 1, 524288) ∷ (220, 1, 4295491584) ∷ (221, 1, 4295491584) ∷ [])
     []
-    ((31, (0, 502)) ∷ [])
+    ((32, (0, 523)) ∷ [])
     []
-    ((210, 262144) ∷ [])
+    ((218, 524288) ∷ [])
 
 -- after ProgramText ^let ^fun Variable Interface ^[ ^( GPosts'
-abbrev pub state_383 : Row
-state_383 = at
-    ((219, 1, 2147745792) ∷ (222, 1, 146421031362106359809) ∷ [])
-    ((61, begin_at 5 232 0 146421031367944831005) ∷ (74, begin_at 1 222 1 146421031362106359809) ∷
-    (75, begin_at 2 204 0 146421031362576121885) ∷ (76, begin_at 3 207 0 146421031362576121885) ∷
-    (82, begin_at 3 206 0 146421031362576121885) ∷ (83, begin_at 4 227 0 146421031367944831005) ∷
-    (84, begin_at 4 226 0 146421031367944831005) ∷ (85, begin_at 5 234 0 146421031367944831005) ∷
-    (95, begin_at 6 282 0 146421031367944831005) ∷ [])
-    ((0, (0, 247)) ∷ (17, (1, 293)) ∷ (19, (1, 249)) ∷ (21, (1, 250)) ∷ (23, (1, 251)) ∷
-    (38, (0, 253)) ∷ (60, (0, 254)) ∷ (61, (0, 255)) ∷ (62, (0, 295)) ∷ (63, (0, 256)) ∷
-    (64, (0, 257)) ∷ (65, (0, 258)) ∷ (66, (0, 296)) ∷ [])
-    ((61, 280) ∷ (74, 503) ∷ (75, 286) ∷ (76, 287) ∷ (82, 288) ∷ (83, 289) ∷ (84, 290) ∷ (85, 291) ∷
-    (95, 292) ∷ [])
-    ((219, 2147745792) ∷ [])
+abbrev pub state_398 : Row
+state_398 = at
+    ((227, 1, 4295491584) ∷ (230, 1, 9370945990548281622529) ∷ [])
+    ((63, begin_at 5 240 0 9370945990559958564893) ∷ (78, begin_at 1 230 1 9370945990548281622529) ∷
+    (79, begin_at 2 212 0 9370945990549221146653) ∷ (80, begin_at 3 215 0 9370945990549221146653) ∷
+    (86, begin_at 3 214 0 9370945990549221146653) ∷ (87, begin_at 4 235 0 9370945990559958564893) ∷
+    (88, begin_at 4 234 0 9370945990559958564893) ∷ (89, begin_at 5 242 0 9370945990559958564893) ∷
+    (99, begin_at 6 294 0 9370945990559958564893) ∷ [])
+    ((0, (0, 259)) ∷ (18, (1, 305)) ∷ (20, (1, 261)) ∷ (22, (1, 262)) ∷ (24, (1, 263)) ∷
+    (40, (0, 265)) ∷ (66, (0, 266)) ∷ (67, (0, 267)) ∷ (68, (0, 307)) ∷ (69, (0, 268)) ∷
+    (70, (0, 269)) ∷ (71, (0, 270)) ∷ (72, (0, 308)) ∷ [])
+    ((63, 292) ∷ (78, 524) ∷ (79, 298) ∷ (80, 299) ∷ (86, 300) ∷ (87, 301) ∷ (88, 302) ∷ (89, 303) ∷
+    (99, 304) ∷ [])
+    ((227, 4295491584) ∷ [])
 
 -- after ProgramText ^let ^fun Variable Interface ^[ ^( GItem'
-abbrev pub state_384 : Row
-state_384 = at
-    ((218, 1, 2147745792) ∷ (220, 1, 146421031362106359809) ∷ [])
-    ((61, begin_at 5 232 0 146421031367944831005) ∷ (74, begin_at 1 220 1 146421031362106359809) ∷
-    (75, begin_at 2 204 0 146421031362576121885) ∷ (76, begin_at 3 207 0 146421031362576121885) ∷
-    (82, begin_at 3 206 0 146421031362576121885) ∷ (83, begin_at 4 227 0 146421031367944831005) ∷
-    (84, begin_at 4 226 0 146421031367944831005) ∷ (85, begin_at 5 234 0 146421031367944831005) ∷
-    (95, begin_at 6 282 0 146421031367944831005) ∷ [])
-    ((0, (0, 247)) ∷ (17, (1, 293)) ∷ (19, (1, 249)) ∷ (21, (1, 250)) ∷ (23, (1, 251)) ∷
-    (38, (0, 253)) ∷ (60, (0, 254)) ∷ (61, (0, 255)) ∷ (62, (0, 295)) ∷ (63, (0, 256)) ∷
-    (64, (0, 257)) ∷ (65, (0, 258)) ∷ (66, (0, 296)) ∷ [])
-    ((61, 280) ∷ (74, 504) ∷ (75, 286) ∷ (76, 287) ∷ (82, 288) ∷ (83, 289) ∷ (84, 290) ∷ (85, 291) ∷
-    (95, 292) ∷ [])
-    ((218, 2147745792) ∷ [])
+abbrev pub state_399 : Row
+state_399 = at
+    ((226, 1, 4295491584) ∷ (228, 1, 9370945990548281622529) ∷ [])
+    ((63, begin_at 5 240 0 9370945990559958564893) ∷ (78, begin_at 1 228 1 9370945990548281622529) ∷
+    (79, begin_at 2 212 0 9370945990549221146653) ∷ (80, begin_at 3 215 0 9370945990549221146653) ∷
+    (86, begin_at 3 214 0 9370945990549221146653) ∷ (87, begin_at 4 235 0 9370945990559958564893) ∷
+    (88, begin_at 4 234 0 9370945990559958564893) ∷ (89, begin_at 5 242 0 9370945990559958564893) ∷
+    (99, begin_at 6 294 0 9370945990559958564893) ∷ [])
+    ((0, (0, 259)) ∷ (18, (1, 305)) ∷ (20, (1, 261)) ∷ (22, (1, 262)) ∷ (24, (1, 263)) ∷
+    (40, (0, 265)) ∷ (66, (0, 266)) ∷ (67, (0, 267)) ∷ (68, (0, 307)) ∷ (69, (0, 268)) ∷
+    (70, (0, 269)) ∷ (71, (0, 270)) ∷ (72, (0, 308)) ∷ [])
+    ((63, 292) ∷ (78, 525) ∷ (79, 298) ∷ (80, 299) ∷ (86, 300) ∷ (87, 301) ∷ (88, 302) ∷ (89, 303) ∷
+    (99, 304) ∷ [])
+    ((226, 4295491584) ∷ [])
 
 -- after ProgramText ^let ^fun Variable Interface ^[ ^( IItem'
-abbrev pub state_385 : Row
-state_385 = at
-    ((214, 1, 2147745792) ∷ (221, 1, 146421031362106359809) ∷ (225, 1, 146421031362106359809) ∷
-    (247, 1, 2251808403882112) ∷ (249, 1, 2251810551365760) ∷ [])
-    ((61, begin_at 5 232 0 146421031367944831005) ∷ (74, begin_at 1 221 1 146421031362106359809) ∷
-    (75, begin_at 2 204 0 146421031362576121885) ∷ (76, begin_at 3 207 0 146421031362576121885) ∷
-    (82, begin_at 3 206 0 146421031362576121885) ∷ (83, begin_at 4 227 0 146421031367944831005) ∷
-    (84, begin_at 4 226 0 146421031367944831005) ∷ (85, begin_at 5 234 0 146421031367944831005) ∷
-    (93, begin_at 1 225 1 146421031362106359809) ∷ (95, begin_at 6 282 0 146421031367944831005) ∷
+abbrev pub state_400 : Row
+state_400 = at
+    ((222, 1, 4295491584) ∷ (229, 1, 9370945990548281622529) ∷ (233, 1, 9370945990548281622529) ∷
+    (255, 1, 9007216435134592) ∷ (257, 1, 9007220730101888) ∷ [])
+    ((63, begin_at 5 240 0 9370945990559958564893) ∷ (78, begin_at 1 229 1 9370945990548281622529) ∷
+    (79, begin_at 2 212 0 9370945990549221146653) ∷ (80, begin_at 3 215 0 9370945990549221146653) ∷
+    (86, begin_at 3 214 0 9370945990549221146653) ∷ (87, begin_at 4 235 0 9370945990559958564893) ∷
+    (88, begin_at 4 234 0 9370945990559958564893) ∷ (89, begin_at 5 242 0 9370945990559958564893) ∷
+    (97, begin_at 1 233 1 9370945990548281622529) ∷ (99, begin_at 6 294 0 9370945990559958564893) ∷
     [])
-    ((0, (0, 247)) ∷ (2, (0, 125)) ∷ (3, (0, 126)) ∷ (4, (0, 127)) ∷ (17, (1, 293)) ∷
-    (19, (1, 249)) ∷ (21, (1, 250)) ∷ (23, (1, 251)) ∷ (26, (0, 128)) ∷ (27, (0, 129)) ∷
-    (28, (0, 130)) ∷ (31, (0, 507)) ∷ (38, (0, 253)) ∷ (60, (0, 254)) ∷ (61, (0, 255)) ∷
-    (62, (0, 295)) ∷ (63, (0, 256)) ∷ (64, (0, 257)) ∷ (65, (0, 258)) ∷ (66, (0, 296)) ∷ [])
-    ((61, 280) ∷ (74, 505) ∷ (75, 286) ∷ (76, 287) ∷ (82, 288) ∷ (83, 289) ∷ (84, 290) ∷ (85, 291) ∷
-    (93, 506) ∷ (95, 292) ∷ [])
-    ((247, 2251808403882112) ∷ [])
+    ((0, (0, 259)) ∷ (2, (0, 131)) ∷ (3, (0, 132)) ∷ (4, (0, 133)) ∷ (18, (1, 305)) ∷
+    (20, (1, 261)) ∷ (22, (1, 262)) ∷ (24, (1, 263)) ∷ (27, (0, 134)) ∷ (28, (0, 135)) ∷
+    (29, (0, 136)) ∷ (32, (0, 528)) ∷ (40, (0, 265)) ∷ (66, (0, 266)) ∷ (67, (0, 267)) ∷
+    (68, (0, 307)) ∷ (69, (0, 268)) ∷ (70, (0, 269)) ∷ (71, (0, 270)) ∷ (72, (0, 308)) ∷ [])
+    ((63, 292) ∷ (78, 526) ∷ (79, 298) ∷ (80, 299) ∷ (86, 300) ∷ (87, 301) ∷ (88, 302) ∷ (89, 303) ∷
+    (97, 527) ∷ (99, 304) ∷ [])
+    ((255, 9007216435134592) ∷ [])
 
 -- after ProgramText ^let ^fun Variable Interface ^[ ^( ITrees'
-abbrev pub state_386 : Row
-state_386 = at
-    ((235, 2, 146423283176349499549) ∷ (238, 1, 8590196736) ∷ [])
+abbrev pub state_401 : Row
+state_401 = at
+    ((243, 2, 9370954997776395272349) ∷ (246, 1, 17180393472) ∷ [])
     []
-    ((18, (0, 508)) ∷ (33, (0, 509)) ∷ [])
+    ((19, (0, 529)) ∷ (34, (0, 530)) ∷ [])
     []
     []
 
 -- after ProgramText ^let ^fun Variable Interface ^[ ^( ITree'
-abbrev pub state_387 : Row
-state_387 = at
-    ((237, 1, 8590196736) ∷ [])
+abbrev pub state_402 : Row
+state_402 = at
+    ((245, 1, 17180393472) ∷ [])
     []
-    ((33, (0, 510)) ∷ [])
+    ((34, (0, 531)) ∷ [])
     []
     []
 
 -- after ProgramText ^let ^fun Variable Interface ^[ ^( OwnTree'
-abbrev pub state_388 : Row
-state_388 = at
-    ((236, 2, 146423283176349499549) ∷ (240, 1, 8589934592) ∷ [])
+abbrev pub state_403 : Row
+state_403 = at
+    ((244, 2, 9370954997776395272349) ∷ (248, 1, 17179869184) ∷ [])
     []
-    ((18, (0, 511)) ∷ [])
+    ((19, (0, 532)) ∷ [])
     []
-    ((240, 8589934592) ∷ [])
+    ((248, 17179869184) ∷ [])
 
 -- after ProgramText ^let ^fun Variable Interface ^[ ^( IArrow'
-abbrev pub state_389 : Row
-state_389 = at
-    ((241, 1, 8590196736) ∷ (242, 1, 8590196736) ∷ [])
+abbrev pub state_404 : Row
+state_404 = at
+    ((249, 1, 17180393472) ∷ (250, 1, 17180393472) ∷ [])
     []
-    ((51, (0, 512)) ∷ [])
+    ((53, (0, 533)) ∷ [])
     []
-    ((241, 8590196736) ∷ [])
+    ((249, 17180393472) ∷ [])
 
 -- after ProgramText ^let ^fun Variable Interface ^[ ^( IArrows'
-abbrev pub state_390 : Row
-state_390 = at
-    ((244, 1, 2251808403881984) ∷ [])
+abbrev pub state_405 : Row
+state_405 = at
+    ((252, 1, 9007216435134464) ∷ [])
     []
     []
     []
-    ((244, 2251808403881984) ∷ [])
+    ((252, 9007216435134464) ∷ [])
 
 -- after ProgramText ^let ^fun Variable Interface ^[ ^( IUnion'
-abbrev pub state_391 : Row
-state_391 = at
-    ((233, 2, 146423283176349499549) ∷ (239, 1, 8589934592) ∷ (243, 1, 8590196736) ∷
-    (245, 1, 2251808403881984) ∷ (246, 1, 2251808403881984) ∷ [])
+abbrev pub state_406 : Row
+state_406 = at
+    ((241, 2, 9370954997776395272349) ∷ (247, 1, 17179869184) ∷ (251, 1, 17180393472) ∷
+    (253, 1, 9007216435134464) ∷ (254, 1, 9007216435134464) ∷ [])
     []
-    ((7, (1, 513)) ∷ (18, (0, 514)) ∷ (51, (0, 515)) ∷ [])
+    ((7, (1, 534)) ∷ (19, (0, 535)) ∷ (53, (0, 536)) ∷ [])
     []
-    ((239, 8589934592) ∷ [])
+    ((247, 17179869184) ∷ [])
 
 -- after ProgramText ^let ^fun Variable Interface ^[ ^( IAlts'
-abbrev pub state_392 : Row
-state_392 = at
-    ((215, 1, 2147745792) ∷ (248, 1, 2251808403882112) ∷ (250, 1, 2251810551365760) ∷ [])
+abbrev pub state_407 : Row
+state_407 = at
+    ((223, 1, 4295491584) ∷ (256, 1, 9007216435134592) ∷ (258, 1, 9007220730101888) ∷ [])
     []
-    ((31, (0, 516)) ∷ [])
+    ((32, (0, 537)) ∷ [])
     []
-    ((248, 2251808403882112) ∷ [])
+    ((256, 9007216435134592) ∷ [])
 
 -- after ProgramText ^let ^fun Variable Interface ^[ ^( Variable
-abbrev pub state_393 : Row
-state_393 = at
-    ((280, 1, 146423283176348450973) ∷ (283, 2, 146423283176349499549) ∷
-    (290, 1, 146421031362106359809) ∷ [])
+abbrev pub state_408 : Row
+state_408 = at
+    ((292, 1, 9370954997776393175197) ∷ (295, 2, 9370954997776395272349) ∷
+    (302, 1, 9370945990548281622529) ∷ [])
     []
-    ((8, (1, 517)) ∷ (9, (0, 368)) ∷ [])
+    ((8, (1, 538)) ∷ (9, (0, 383)) ∷ [])
     []
-    ((280, 146423283176348450973) ∷ [])
+    ((292, 9370954997776393175197) ∷ [])
 
 -- after ProgramText ^let ^fun Variable Interface ^[ Variable ^::
-abbrev pub state_394 : Row
-state_394 = at
-    ((289, 2, 146421031362107408385) ∷ [])
-    ((61, begin_at 5 232 0 146421031367945879581) ∷ (74, begin_at 1 289 2 146421031362107408385) ∷
-    (75, begin_at 2 204 0 146421031362577170461) ∷ (76, begin_at 3 207 0 146421031362577170461) ∷
-    (82, begin_at 3 206 0 146421031362577170461) ∷ (83, begin_at 4 227 0 146421031367945879581) ∷
-    (84, begin_at 4 226 0 146421031367945879581) ∷ (85, begin_at 5 234 0 146421031367945879581) ∷
-    (95, begin_at 6 282 0 146421031367945879581) ∷ [])
-    ((0, (0, 247)) ∷ (17, (1, 293)) ∷ (19, (1, 249)) ∷ (21, (1, 250)) ∷ (23, (1, 251)) ∷
-    (38, (0, 253)) ∷ (60, (0, 254)) ∷ (61, (0, 255)) ∷ (62, (0, 295)) ∷ (63, (0, 256)) ∷
-    (64, (0, 257)) ∷ (65, (0, 258)) ∷ (66, (0, 296)) ∷ [])
-    ((61, 280) ∷ (74, 518) ∷ (75, 286) ∷ (76, 287) ∷ (82, 288) ∷ (83, 289) ∷ (84, 290) ∷ (85, 291) ∷
-    (95, 292) ∷ [])
+abbrev pub state_409 : Row
+state_409 = at
+    ((301, 2, 9370945990548283719681) ∷ [])
+    ((63, begin_at 5 240 0 9370945990559960662045) ∷ (78, begin_at 1 301 2 9370945990548283719681) ∷
+    (79, begin_at 2 212 0 9370945990549223243805) ∷ (80, begin_at 3 215 0 9370945990549223243805) ∷
+    (86, begin_at 3 214 0 9370945990549223243805) ∷ (87, begin_at 4 235 0 9370945990559960662045) ∷
+    (88, begin_at 4 234 0 9370945990559960662045) ∷ (89, begin_at 5 242 0 9370945990559960662045) ∷
+    (99, begin_at 6 294 0 9370945990559960662045) ∷ [])
+    ((0, (0, 259)) ∷ (18, (1, 305)) ∷ (20, (1, 261)) ∷ (22, (1, 262)) ∷ (24, (1, 263)) ∷
+    (40, (0, 265)) ∷ (66, (0, 266)) ∷ (67, (0, 267)) ∷ (68, (0, 307)) ∷ (69, (0, 268)) ∷
+    (70, (0, 269)) ∷ (71, (0, 270)) ∷ (72, (0, 308)) ∷ [])
+    ((63, 292) ∷ (78, 539) ∷ (79, 298) ∷ (80, 299) ∷ (86, 300) ∷ (87, 301) ∷ (88, 302) ∷ (89, 303) ∷
+    (99, 304) ∷ [])
     []
 
 -- after ProgramText ^let ^fun Variable Interface ^{ Fields' '}
-abbrev pub state_395 : Row
-state_395 = at
-    ((167, 3, 147573952348621243549) ∷ [])
+abbrev pub state_410 : Row
+state_410 = at
+    ((171, 3, 9444732964707424273565) ∷ [])
     []
     []
     []
-    ((167, 147573952348621243549) ∷ [])
+    ((171, 9444732964707424273565) ∷ [])
 
--- after ProgramText ^let ^fun Variable Interface ^{ FieldList' '..
-abbrev pub state_396 : Row
-state_396 = at
-    ((175, 2, 4194304) ∷ [])
+-- after ProgramText ^let ^fun Variable Interface ^{ FieldList' Others'
+abbrev pub state_411 : Row
+state_411 = at
+    ((179, 2, 8388608) ∷ [])
     []
     []
     []
-    ((175, 4194304) ∷ [])
+    ((179, 8388608) ∷ [])
 
 -- after ProgramText ^let ^fun Variable Interface ^{ FieldList' ';
-abbrev pub state_397 : Row
-state_397 = at
-    ((173, 2, 4194304) ∷ (176, 2, 4194304) ∷ (178, 2, 17184064512) ∷ [])
-    ((64, begin_at 1 178 2 17184064512) ∷ (94, begin_at 2 179 0 33554464) ∷ [])
-    ((10, (0, 520)) ∷ (39, (0, 67)) ∷ (40, (0, 68)) ∷ (41, (0, 69)) ∷ (42, (0, 70)) ∷
-    (43, (0, 71)) ∷ (44, (0, 72)) ∷ (45, (0, 73)) ∷ (46, (0, 74)) ∷ (47, (0, 75)) ∷ (48, (0, 76)) ∷
-    (49, (0, 77)) ∷ (50, (0, 78)) ∷ (51, (0, 79)) ∷ (52, (0, 80)) ∷ (53, (0, 81)) ∷ (54, (0, 82)) ∷
-    (55, (0, 83)) ∷ (56, (0, 84)) ∷ (57, (0, 85)) ∷ (58, (0, 86)) ∷ (59, (0, 87)) ∷ (65, (0, 88)) ∷
-    (66, (0, 89)) ∷ [])
-    ((64, 519) ∷ (94, 300) ∷ [])
-    ((173, 4194304) ∷ [])
+abbrev pub state_412 : Row
+state_412 = at
+    ((177, 2, 8388608) ∷ (180, 2, 8388608) ∷ (184, 2, 1133879755776) ∷ [])
+    ((65, begin_at 1 180 2 8388608) ∷ (67, begin_at 1 184 2 1133879755776) ∷
+    (98, begin_at 2 185 0 67108896) ∷ [])
+    ((10, (0, 314)) ∷ (40, (0, 316)) ∷ (41, (0, 69)) ∷ (42, (0, 70)) ∷ (43, (0, 71)) ∷
+    (44, (0, 72)) ∷ (45, (0, 73)) ∷ (46, (0, 74)) ∷ (47, (0, 75)) ∷ (48, (0, 76)) ∷ (49, (0, 77)) ∷
+    (50, (0, 78)) ∷ (51, (0, 79)) ∷ (52, (0, 80)) ∷ (53, (0, 81)) ∷ (54, (0, 82)) ∷ (55, (0, 83)) ∷
+    (56, (0, 84)) ∷ (57, (0, 85)) ∷ (58, (0, 86)) ∷ (59, (0, 87)) ∷ (60, (0, 88)) ∷ (61, (0, 89)) ∷
+    (62, (0, 90)) ∷ (63, (0, 91)) ∷ (64, (0, 92)) ∷ (65, (0, 93)) ∷ (71, (0, 94)) ∷ (72, (0, 95)) ∷
+    [])
+    ((65, 540) ∷ (67, 541) ∷ (98, 313) ∷ [])
+    ((177, 8388608) ∷ [])
 
 -- after ProgramText ^let ^fun Variable Interface ^{ Label '=?
-abbrev pub state_398 : Row
-state_398 = at
-    ((180, 2, 17184064512) ∷ [])
-    ((49, begin_at 1 180 2 17184064512) ∷ (52, begin_at 2 131 0 2251816997749760) ∷
-    (53, begin_at 3 137 0 2251816997749760) ∷ (54, begin_at 3 136 0 2251816997749888) ∷
-    (55, begin_at 4 141 0 2251819145233536) ∷ (56, begin_at 4 140 0 2251819145233536) ∷
-    (57, begin_at 5 145 0 2251824513942656) ∷ (58, begin_at 5 144 0 2251824513942656) ∷
-    (59, begin_at 6 151 0 2251824513942656) ∷ (61, begin_at 6 150 0 2251824513942656) ∷
-    (95, begin_at 7 281 0 2251824513942656) ∷ [])
-    ((0, (0, 247)) ∷ (17, (1, 248)) ∷ (19, (1, 249)) ∷ (21, (1, 250)) ∷ (23, (1, 251)) ∷
-    (38, (0, 253)) ∷ (60, (0, 254)) ∷ (61, (0, 255)) ∷ (63, (0, 256)) ∷ (64, (0, 257)) ∷
-    (65, (0, 258)) ∷ (66, (0, 259)) ∷ [])
-    ((49, 521) ∷ (52, 275) ∷ (53, 276) ∷ (54, 277) ∷ (55, 234) ∷ (56, 235) ∷ (57, 236) ∷ (58, 237) ∷
-    (59, 238) ∷ (61, 239) ∷ (95, 240) ∷ [])
+abbrev pub state_413 : Row
+state_413 = at
+    ((186, 2, 1133879755776) ∷ [])
+    ((51, begin_at 1 186 2 1133879755776) ∷ (54, begin_at 2 135 0 9008333134496768) ∷
+    (55, begin_at 3 141 0 9008333134496768) ∷ (56, begin_at 3 140 0 9008333134496896) ∷
+    (57, begin_at 4 145 0 9008337429464192) ∷ (58, begin_at 4 144 0 9008337429464192) ∷
+    (59, begin_at 5 149 0 9008348166882432) ∷ (60, begin_at 5 148 0 9008348166882432) ∷
+    (61, begin_at 6 155 0 9008348166882432) ∷ (63, begin_at 6 154 0 9008348166882432) ∷
+    (99, begin_at 7 293 0 9008348166882432) ∷ [])
+    ((0, (0, 259)) ∷ (18, (1, 260)) ∷ (20, (1, 261)) ∷ (22, (1, 262)) ∷ (24, (1, 263)) ∷
+    (40, (0, 265)) ∷ (66, (0, 266)) ∷ (67, (0, 267)) ∷ (69, (0, 268)) ∷ (70, (0, 269)) ∷
+    (71, (0, 270)) ∷ (72, (0, 271)) ∷ [])
+    ((51, 542) ∷ (54, 287) ∷ (55, 288) ∷ (56, 289) ∷ (57, 246) ∷ (58, 247) ∷ (59, 248) ∷ (60, 249) ∷
+    (61, 250) ∷ (63, 251) ∷ (99, 252) ∷ [])
     []
 
 -- after ProgramText ^let ^fun Variable Interface ^{ Label '=
-abbrev pub state_399 : Row
-state_399 = at
-    ((179, 2, 17184064512) ∷ [])
-    ((49, begin_at 1 179 2 17184064512) ∷ (52, begin_at 2 131 0 2251816997749760) ∷
-    (53, begin_at 3 137 0 2251816997749760) ∷ (54, begin_at 3 136 0 2251816997749888) ∷
-    (55, begin_at 4 141 0 2251819145233536) ∷ (56, begin_at 4 140 0 2251819145233536) ∷
-    (57, begin_at 5 145 0 2251824513942656) ∷ (58, begin_at 5 144 0 2251824513942656) ∷
-    (59, begin_at 6 151 0 2251824513942656) ∷ (61, begin_at 6 150 0 2251824513942656) ∷
-    (95, begin_at 7 281 0 2251824513942656) ∷ [])
-    ((0, (0, 247)) ∷ (17, (1, 248)) ∷ (19, (1, 249)) ∷ (21, (1, 250)) ∷ (23, (1, 251)) ∷
-    (38, (0, 253)) ∷ (60, (0, 254)) ∷ (61, (0, 255)) ∷ (63, (0, 256)) ∷ (64, (0, 257)) ∷
-    (65, (0, 258)) ∷ (66, (0, 259)) ∷ [])
-    ((49, 522) ∷ (52, 275) ∷ (53, 276) ∷ (54, 277) ∷ (55, 234) ∷ (56, 235) ∷ (57, 236) ∷ (58, 237) ∷
-    (59, 238) ∷ (61, 239) ∷ (95, 240) ∷ [])
+abbrev pub state_414 : Row
+state_414 = at
+    ((185, 2, 1133879755776) ∷ [])
+    ((51, begin_at 1 185 2 1133879755776) ∷ (54, begin_at 2 135 0 9008333134496768) ∷
+    (55, begin_at 3 141 0 9008333134496768) ∷ (56, begin_at 3 140 0 9008333134496896) ∷
+    (57, begin_at 4 145 0 9008337429464192) ∷ (58, begin_at 4 144 0 9008337429464192) ∷
+    (59, begin_at 5 149 0 9008348166882432) ∷ (60, begin_at 5 148 0 9008348166882432) ∷
+    (61, begin_at 6 155 0 9008348166882432) ∷ (63, begin_at 6 154 0 9008348166882432) ∷
+    (99, begin_at 7 293 0 9008348166882432) ∷ [])
+    ((0, (0, 259)) ∷ (18, (1, 260)) ∷ (20, (1, 261)) ∷ (22, (1, 262)) ∷ (24, (1, 263)) ∷
+    (40, (0, 265)) ∷ (66, (0, 266)) ∷ (67, (0, 267)) ∷ (69, (0, 268)) ∷ (70, (0, 269)) ∷
+    (71, (0, 270)) ∷ (72, (0, 271)) ∷ [])
+    ((51, 543) ∷ (54, 287) ∷ (55, 288) ∷ (56, 289) ∷ (57, 246) ∷ (58, 247) ∷ (59, 248) ∷ (60, 249) ∷
+    (61, 250) ∷ (63, 251) ∷ (99, 252) ∷ [])
+    []
+
+-- after ProgramText ^let ^fun Variable Interface ^{ '_ '=?
+abbrev pub state_415 : Row
+state_415 = at
+    ((182, 2, 8388608) ∷ [])
+    ((51, begin_at 1 182 2 8388608) ∷ (54, begin_at 2 135 0 9007199263129600) ∷
+    (55, begin_at 3 141 0 9007199263129600) ∷ (56, begin_at 3 140 0 9007199263129728) ∷
+    (57, begin_at 4 145 0 9007203558097024) ∷ (58, begin_at 4 144 0 9007203558097024) ∷
+    (59, begin_at 5 149 0 9007214295515264) ∷ (60, begin_at 5 148 0 9007214295515264) ∷
+    (61, begin_at 6 155 0 9007214295515264) ∷ (63, begin_at 6 154 0 9007214295515264) ∷
+    (99, begin_at 7 293 0 9007214295515264) ∷ [])
+    ((0, (0, 259)) ∷ (18, (1, 260)) ∷ (20, (1, 261)) ∷ (22, (1, 262)) ∷ (24, (1, 263)) ∷
+    (40, (0, 265)) ∷ (66, (0, 266)) ∷ (67, (0, 267)) ∷ (69, (0, 268)) ∷ (70, (0, 269)) ∷
+    (71, (0, 270)) ∷ (72, (0, 271)) ∷ [])
+    ((51, 544) ∷ (54, 287) ∷ (55, 288) ∷ (56, 289) ∷ (57, 246) ∷ (58, 247) ∷ (59, 248) ∷ (60, 249) ∷
+    (61, 250) ∷ (63, 251) ∷ (99, 252) ∷ [])
     []
 
 -- after ProgramText ^let ^fun Variable Interface ^< Tag' Attrs'
-abbrev pub state_400 : Row
-state_400 = at
-    ((171, 3, 147573952348621243549) ∷ [])
+abbrev pub state_416 : Row
+state_416 = at
+    ((175, 3, 9444732964707424273565) ∷ [])
     []
-    ((24, (0, 523)) ∷ [])
+    ((25, (0, 545)) ∷ [])
     []
     []
 
 -- after ProgramText ^let ^fun Variable Interface ^< Tag' AttrFields'
-abbrev pub state_401 : Row
-state_401 = at
-    ((184, 1, 16777216) ∷ [])
+abbrev pub state_417 : Row
+state_417 = at
+    ((190, 1, 33554432) ∷ [])
     []
     []
     []
-    ((184, 16777216) ∷ [])
+    ((190, 33554432) ∷ [])
+
+-- after ProgramText ^let ^fun Variable Interface ^< Tag' AttrOthers'
+abbrev pub state_418 : Row
+state_418 = at
+    ((194, 1, 33554432) ∷ [])
+    []
+    []
+    []
+    ((194, 33554432) ∷ [])
 
 -- after ProgramText ^let ^fun Variable Interface ^< Tag' AttrList'
-abbrev pub state_402 : Row
-state_402 = at
-    ((186, 1, 16777216) ∷ (187, 1, 16777216) ∷ (189, 1, 16777216) ∷ (190, 1, 16777216) ∷
-    (192, 1, 111833385414304990208) ∷ (193, 1, 111833385414304990208) ∷ [])
-    ((69, begin_at 1 192 1 111833385414304990208) ∷ (94, begin_at 2 194 0 33554464) ∷ [])
-    ((10, (0, 525)) ∷ (34, (0, 526)) ∷ (39, (0, 67)) ∷ (40, (0, 68)) ∷ (41, (0, 69)) ∷
-    (42, (0, 70)) ∷ (43, (0, 71)) ∷ (44, (0, 72)) ∷ (45, (0, 73)) ∷ (46, (0, 74)) ∷ (47, (0, 75)) ∷
-    (48, (0, 76)) ∷ (49, (0, 77)) ∷ (50, (0, 78)) ∷ (51, (0, 79)) ∷ (52, (0, 80)) ∷ (53, (0, 81)) ∷
-    (54, (0, 82)) ∷ (55, (0, 83)) ∷ (56, (0, 84)) ∷ (57, (0, 85)) ∷ (58, (0, 86)) ∷ (59, (0, 87)) ∷
-    (65, (0, 88)) ∷ (66, (0, 89)) ∷ [])
-    ((69, 524) ∷ (94, 404) ∷ [])
-    ((186, 16777216) ∷ [])
+abbrev pub state_419 : Row
+state_419 = at
+    ((192, 1, 33554432) ∷ (193, 1, 33554432) ∷ (195, 1, 33554432) ∷ (196, 1, 33554432) ∷
+    (200, 1, 7157336699534187693056) ∷ (201, 1, 7157336699534187693056) ∷ [])
+    ((71, begin_at 1 195 1 33554432) ∷ (73, begin_at 1 200 1 7157336699534187693056) ∷
+    (98, begin_at 2 202 0 67108896) ∷ [])
+    ((10, (0, 422)) ∷ (35, (0, 548)) ∷ (40, (0, 425)) ∷ (41, (0, 69)) ∷ (42, (0, 70)) ∷
+    (43, (0, 71)) ∷ (44, (0, 72)) ∷ (45, (0, 73)) ∷ (46, (0, 74)) ∷ (47, (0, 75)) ∷ (48, (0, 76)) ∷
+    (49, (0, 77)) ∷ (50, (0, 78)) ∷ (51, (0, 79)) ∷ (52, (0, 80)) ∷ (53, (0, 81)) ∷ (54, (0, 82)) ∷
+    (55, (0, 83)) ∷ (56, (0, 84)) ∷ (57, (0, 85)) ∷ (58, (0, 86)) ∷ (59, (0, 87)) ∷ (60, (0, 88)) ∷
+    (61, (0, 89)) ∷ (62, (0, 90)) ∷ (63, (0, 91)) ∷ (64, (0, 92)) ∷ (65, (0, 93)) ∷ (71, (0, 94)) ∷
+    (72, (0, 95)) ∷ [])
+    ((71, 546) ∷ (73, 547) ∷ (98, 421) ∷ [])
+    ((192, 33554432) ∷ [])
 
 -- after ProgramText ^let ^fun Variable Interface ^< Tag' Attr'
-abbrev pub state_403 : Row
-state_403 = at
-    ((191, 1, 111833385414304990208) ∷ [])
+abbrev pub state_420 : Row
+state_420 = at
+    ((199, 1, 7157336699534187693056) ∷ [])
     []
     []
     []
-    ((191, 111833385414304990208) ∷ [])
+    ((199, 7157336699534187693056) ∷ [])
 
 -- after ProgramText ^let ^fun Variable Interface ^< Tag' Label
-abbrev pub state_404 : Row
-state_404 = at
-    ((194, 1, 111833385414304990208) ∷ (195, 1, 111833385414304990208) ∷ [])
+abbrev pub state_421 : Row
+state_421 = at
+    ((202, 1, 7157336699534187693056) ∷ (203, 1, 7157336699534187693056) ∷ [])
     []
-    ((5, (0, 527)) ∷ (25, (0, 528)) ∷ [])
+    ((5, (0, 549)) ∷ (26, (0, 550)) ∷ [])
     []
     []
 
 -- after ProgramText ^let ^fun Variable Interface ^< Tag' '..
-abbrev pub state_405 : Row
-state_405 = at
-    ((188, 1, 16777216) ∷ [])
+abbrev pub state_422 : Row
+state_422 = at
+    ((197, 1, 33554432) ∷ [])
     []
     []
     []
-    ((188, 16777216) ∷ [])
+    ((197, 33554432) ∷ [])
 
 -- after ProgramText ^let ^fun Variable Interface ^< Tag' ^(
-abbrev pub state_406 : Row
-state_406 = at
-    ((185, 1, 16777216) ∷ [])
-    ((49, begin_at 1 185 1 262144) ∷ (52, begin_at 2 131 0 2251799813947392) ∷
-    (53, begin_at 3 137 0 2251799813947392) ∷ (54, begin_at 3 136 0 2251799813947520) ∷
-    (55, begin_at 4 141 0 2251801961431168) ∷ (56, begin_at 4 140 0 2251801961431168) ∷
-    (57, begin_at 5 145 0 2251807330140288) ∷ (58, begin_at 5 144 0 2251807330140288) ∷
-    (59, begin_at 6 151 0 2251807330140288) ∷ (61, begin_at 6 150 0 2251807330140288) ∷
-    (95, begin_at 7 281 0 2251807330140288) ∷ [])
-    ((0, (0, 247)) ∷ (17, (1, 248)) ∷ (19, (1, 249)) ∷ (21, (1, 250)) ∷ (23, (1, 251)) ∷
-    (38, (0, 253)) ∷ (60, (0, 254)) ∷ (61, (0, 255)) ∷ (63, (0, 256)) ∷ (64, (0, 257)) ∷
-    (65, (0, 258)) ∷ (66, (0, 259)) ∷ [])
-    ((49, 529) ∷ (52, 275) ∷ (53, 276) ∷ (54, 277) ∷ (55, 234) ∷ (56, 235) ∷ (57, 236) ∷ (58, 237) ∷
-    (59, 238) ∷ (61, 239) ∷ (95, 240) ∷ [])
+abbrev pub state_423 : Row
+state_423 = at
+    ((191, 1, 33554432) ∷ [])
+    ((51, begin_at 1 191 1 524288) ∷ (54, begin_at 2 135 0 9007199255265280) ∷
+    (55, begin_at 3 141 0 9007199255265280) ∷ (56, begin_at 3 140 0 9007199255265408) ∷
+    (57, begin_at 4 145 0 9007203550232704) ∷ (58, begin_at 4 144 0 9007203550232704) ∷
+    (59, begin_at 5 149 0 9007214287650944) ∷ (60, begin_at 5 148 0 9007214287650944) ∷
+    (61, begin_at 6 155 0 9007214287650944) ∷ (63, begin_at 6 154 0 9007214287650944) ∷
+    (99, begin_at 7 293 0 9007214287650944) ∷ [])
+    ((0, (0, 259)) ∷ (18, (1, 260)) ∷ (20, (1, 261)) ∷ (22, (1, 262)) ∷ (24, (1, 263)) ∷
+    (40, (0, 265)) ∷ (66, (0, 266)) ∷ (67, (0, 267)) ∷ (69, (0, 268)) ∷ (70, (0, 269)) ∷
+    (71, (0, 270)) ∷ (72, (0, 271)) ∷ [])
+    ((51, 551) ∷ (54, 287) ∷ (55, 288) ∷ (56, 289) ∷ (57, 246) ∷ (58, 247) ∷ (59, 248) ∷ (60, 249) ∷
+    (61, 250) ∷ (63, 251) ∷ (99, 252) ∷ [])
     []
 
 -- after ProgramText ^let ^fun Variable Interface ^< Tag' '>
-abbrev pub state_407 : Row
-state_407 = at
-    ((170, 3, 147573952348621243549) ∷ [])
-    ((58, begin_at 1 170 3 147573952348621243549) ∷ (59, begin_at 2 151 0 147573952348621243549) ∷
-    (61, begin_at 2 150 0 147573952348621243549) ∷ (95, begin_at 3 281 0 147573952348621243549) ∷
+abbrev pub state_424 : Row
+state_424 = at
+    ((174, 3, 9444732964707424273565) ∷ [])
+    ((60, begin_at 1 174 3 9444732964707424273565) ∷ (61, begin_at 2 155 0 9444732964707424273565) ∷
+    (63, begin_at 2 154 0 9444732964707424273565) ∷ (99, begin_at 3 293 0 9444732964707424273565) ∷
     [])
-    ((0, (0, 247)) ∷ (17, (1, 248)) ∷ (19, (1, 249)) ∷ (21, (1, 250)) ∷ (23, (1, 251)) ∷
-    (38, (0, 253)) ∷ (60, (0, 254)) ∷ (61, (0, 255)) ∷ (63, (0, 256)) ∷ (64, (0, 257)) ∷
-    (65, (0, 258)) ∷ (66, (0, 259)) ∷ [])
-    ((58, 530) ∷ (59, 238) ∷ (61, 239) ∷ (95, 240) ∷ [])
+    ((0, (0, 259)) ∷ (18, (1, 260)) ∷ (20, (1, 261)) ∷ (22, (1, 262)) ∷ (24, (1, 263)) ∷
+    (40, (0, 265)) ∷ (66, (0, 266)) ∷ (67, (0, 267)) ∷ (69, (0, 268)) ∷ (70, (0, 269)) ∷
+    (71, (0, 270)) ∷ (72, (0, 271)) ∷ [])
+    ((60, 552) ∷ (61, 250) ∷ (63, 251) ∷ (99, 252) ∷ [])
+    []
+
+-- after ProgramText ^let ^fun Variable Interface ^< Tag' '_
+abbrev pub state_425 : Row
+state_425 = at
+    ((198, 1, 33554432) ∷ [])
+    []
+    ((5, (0, 553)) ∷ [])
+    []
     []
 
 -- after ProgramText ^let ^fun Variable Interface ^< ^( Tree'
-abbrev pub state_408 : Row
-state_408 = at
-    ((183, 2, 111833385397125252096) ∷ [])
+abbrev pub state_426 : Row
+state_426 = at
+    ((189, 2, 7157336699499828216832) ∷ [])
     []
-    ((18, (0, 531)) ∷ [])
+    ((19, (0, 554)) ∷ [])
     []
     []
 
 -- after ProgramText ^let ^fun Variable Interface Int '-- Int
-abbrev pub state_409 : Row
-state_409 = at
-    ((157, 3, 147573952348621243549) ∷ [])
+abbrev pub state_427 : Row
+state_427 = at
+    ((161, 3, 9444732964707424273565) ∷ [])
     []
     []
     []
-    ((157, 147573952348621243549) ∷ [])
+    ((161, 9444732964707424273565) ∷ [])
 
 -- after ProgramText ^let ^fun Variable Interface Char1 '-- Char1
-abbrev pub state_410 : Row
-state_410 = at
-    ((161, 3, 147573952348621243549) ∷ [])
+abbrev pub state_428 : Row
+state_428 = at
+    ((165, 3, 9444732964707424273565) ∷ [])
     []
     []
     []
-    ((161, 147573952348621243549) ∷ [])
+    ((165, 9444732964707424273565) ∷ [])
 
 -- after ProgramText ^let ^fun Variable ^( Union ^-> Arrow
-abbrev pub state_411 : Row
-state_411 = at
-    ((301, 3, 17180131328) ∷ [])
+abbrev pub state_429 : Row
+state_429 = at
+    ((313, 3, 34360262656) ∷ [])
     []
     []
     []
-    ((301, 17180131328) ∷ [])
+    ((313, 34360262656) ∷ [])
 
 -- after ProgramText ^let ^fun Variable ^( Sigs '; Sig
-abbrev pub state_412 : Row
-state_412 = at
-    ((300, 3, 17180131328) ∷ [])
+abbrev pub state_430 : Row
+state_430 = at
+    ((312, 3, 34360262656) ∷ [])
     []
     []
     []
-    ((300, 17180131328) ∷ [])
+    ((312, 34360262656) ∷ [])
 
 -- after ProgramText ^let ^fun Variable Interface Union' ^-> Ors '||
-abbrev pub state_413 : Row
-state_413 = at
-    ((326, 2, 1180591855491065675776) ∷ [])
-    ((113, begin_at 1 326 2 1180591855491065675776) ∷
-    (114, begin_at 2 328 0 1180591855491065692160) ∷
-    (115, begin_at 2 327 0 1180591855491065692160) ∷
-    (116, begin_at 3 332 0 1180591855491065692160) ∷
-    (117, begin_at 3 331 0 1180591855491124426752) ∷
-    (118, begin_at 4 340 0 1180591855628563380224) ∷
-    (119, begin_at 4 339 0 1180591855628563380224) ∷
-    (120, begin_at 5 344 0 1180591855630442428416) ∷
-    (121, begin_at 5 343 0 1180591855630442428416) ∷
-    (122, begin_at 6 352 0 1180618877228340869120) ∷
-    (123, begin_at 6 351 0 1180618877228340869120) ∷
-    (124, begin_at 7 365 0 1285534734147566696448) ∷
-    (125, begin_at 7 364 0 1285534734147566696448) ∷
-    (126, begin_at 8 369 0 1285534734181926434816) ∷
-    (131, begin_at 8 368 0 1285534734181926434816) ∷
-    (133, begin_at 9 381 0 1285534734181926434816) ∷
-    (134, begin_at 10 384 0 1285534734181926434816) ∷ [])
-    ((17, (1, 335)) ∷ (19, (1, 336)) ∷ (21, (1, 337)) ∷ (23, (1, 338)) ∷ (55, (0, 346)) ∷
-    (56, (0, 347)) ∷ (57, (0, 348)) ∷ (58, (0, 349)) ∷ (59, (0, 350)) ∷ (60, (0, 351)) ∷
-    (61, (0, 352)) ∷ (63, (0, 353)) ∷ (64, (0, 354)) ∷ (66, (0, 355)) ∷ [])
-    ((113, 532) ∷ (114, 319) ∷ (115, 320) ∷ (116, 321) ∷ (117, 322) ∷ (118, 323) ∷ (119, 324) ∷
-    (120, 325) ∷ (121, 326) ∷ (122, 327) ∷ (123, 328) ∷ (124, 329) ∷ (125, 330) ∷ (126, 331) ∷
-    (131, 332) ∷ (133, 333) ∷ (134, 334) ∷ [])
+abbrev pub state_431 : Row
+state_431 = at
+    ((338, 2, 75594767160299770970112) ∷ [])
+    ((117, begin_at 1 338 2 75594767160299770970112) ∷
+    (118, begin_at 2 340 0 75594767160299770986496) ∷
+    (119, begin_at 2 339 0 75594767160299770986496) ∷
+    (120, begin_at 3 344 0 75594767160299770986496) ∷
+    (121, begin_at 3 343 0 75594767160299888441344) ∷
+    (122, begin_at 4 352 0 75594767160849644255232) ∷
+    (123, begin_at 4 351 0 75594767160849644255232) ∷
+    (124, begin_at 5 356 0 75594767160853402351616) ∷
+    (125, begin_at 5 355 0 75594767160853402351616) ∷
+    (126, begin_at 6 364 0 75594875247244727678976) ∷
+    (127, begin_at 6 363 0 75594875247244727678976) ∷
+    (128, begin_at 7 379 0 82309490090075009972224) ∷
+    (129, begin_at 7 378 0 82309490090075009972224) ∷
+    (134, begin_at 8 382 0 82309490090281168533504) ∷
+    (136, begin_at 9 395 0 82309490090281168533504) ∷
+    (137, begin_at 10 398 0 82309490090281168533504) ∷ [])
+    ((18, (1, 348)) ∷ (20, (1, 349)) ∷ (22, (1, 350)) ∷ (24, (1, 351)) ∷ (57, (0, 359)) ∷
+    (58, (0, 360)) ∷ (59, (0, 361)) ∷ (60, (0, 362)) ∷ (61, (0, 363)) ∷ (62, (0, 364)) ∷
+    (63, (0, 365)) ∷ (66, (0, 366)) ∷ (67, (0, 367)) ∷ (69, (0, 368)) ∷ (70, (0, 369)) ∷
+    (72, (0, 370)) ∷ [])
+    ((117, 555) ∷ (118, 333) ∷ (119, 334) ∷ (120, 335) ∷ (121, 336) ∷ (122, 337) ∷ (123, 338) ∷
+    (124, 339) ∷ (125, 340) ∷ (126, 341) ∷ (127, 342) ∷ (128, 343) ∷ (129, 344) ∷ (134, 345) ∷
+    (136, 346) ∷ (137, 347) ∷ [])
     []
 
 -- after ProgramText ^let ^fun Variable Interface Union' ^-> And '||
-abbrev pub state_414 : Row
-state_414 = at
-    ((325, 2, 1180591855491065675776) ∷ [])
-    ((113, begin_at 1 325 2 1180591855491065675776) ∷
-    (114, begin_at 2 328 0 1180591855491065692160) ∷
-    (115, begin_at 2 327 0 1180591855491065692160) ∷
-    (116, begin_at 3 332 0 1180591855491065692160) ∷
-    (117, begin_at 3 331 0 1180591855491124426752) ∷
-    (118, begin_at 4 340 0 1180591855628563380224) ∷
-    (119, begin_at 4 339 0 1180591855628563380224) ∷
-    (120, begin_at 5 344 0 1180591855630442428416) ∷
-    (121, begin_at 5 343 0 1180591855630442428416) ∷
-    (122, begin_at 6 352 0 1180618877228340869120) ∷
-    (123, begin_at 6 351 0 1180618877228340869120) ∷
-    (124, begin_at 7 365 0 1285534734147566696448) ∷
-    (125, begin_at 7 364 0 1285534734147566696448) ∷
-    (126, begin_at 8 369 0 1285534734181926434816) ∷
-    (131, begin_at 8 368 0 1285534734181926434816) ∷
-    (133, begin_at 9 381 0 1285534734181926434816) ∷
-    (134, begin_at 10 384 0 1285534734181926434816) ∷ [])
-    ((17, (1, 335)) ∷ (19, (1, 336)) ∷ (21, (1, 337)) ∷ (23, (1, 338)) ∷ (55, (0, 346)) ∷
-    (56, (0, 347)) ∷ (57, (0, 348)) ∷ (58, (0, 349)) ∷ (59, (0, 350)) ∷ (60, (0, 351)) ∷
-    (61, (0, 352)) ∷ (63, (0, 353)) ∷ (64, (0, 354)) ∷ (66, (0, 355)) ∷ [])
-    ((113, 533) ∷ (114, 319) ∷ (115, 320) ∷ (116, 321) ∷ (117, 322) ∷ (118, 323) ∷ (119, 324) ∷
-    (120, 325) ∷ (121, 326) ∷ (122, 327) ∷ (123, 328) ∷ (124, 329) ∷ (125, 330) ∷ (126, 331) ∷
-    (131, 332) ∷ (133, 333) ∷ (134, 334) ∷ [])
+abbrev pub state_432 : Row
+state_432 = at
+    ((337, 2, 75594767160299770970112) ∷ [])
+    ((117, begin_at 1 337 2 75594767160299770970112) ∷
+    (118, begin_at 2 340 0 75594767160299770986496) ∷
+    (119, begin_at 2 339 0 75594767160299770986496) ∷
+    (120, begin_at 3 344 0 75594767160299770986496) ∷
+    (121, begin_at 3 343 0 75594767160299888441344) ∷
+    (122, begin_at 4 352 0 75594767160849644255232) ∷
+    (123, begin_at 4 351 0 75594767160849644255232) ∷
+    (124, begin_at 5 356 0 75594767160853402351616) ∷
+    (125, begin_at 5 355 0 75594767160853402351616) ∷
+    (126, begin_at 6 364 0 75594875247244727678976) ∷
+    (127, begin_at 6 363 0 75594875247244727678976) ∷
+    (128, begin_at 7 379 0 82309490090075009972224) ∷
+    (129, begin_at 7 378 0 82309490090075009972224) ∷
+    (134, begin_at 8 382 0 82309490090281168533504) ∷
+    (136, begin_at 9 395 0 82309490090281168533504) ∷
+    (137, begin_at 10 398 0 82309490090281168533504) ∷ [])
+    ((18, (1, 348)) ∷ (20, (1, 349)) ∷ (22, (1, 350)) ∷ (24, (1, 351)) ∷ (57, (0, 359)) ∷
+    (58, (0, 360)) ∷ (59, (0, 361)) ∷ (60, (0, 362)) ∷ (61, (0, 363)) ∷ (62, (0, 364)) ∷
+    (63, (0, 365)) ∷ (66, (0, 366)) ∷ (67, (0, 367)) ∷ (69, (0, 368)) ∷ (70, (0, 369)) ∷
+    (72, (0, 370)) ∷ [])
+    ((117, 556) ∷ (118, 333) ∷ (119, 334) ∷ (120, 335) ∷ (121, 336) ∷ (122, 337) ∷ (123, 338) ∷
+    (124, 339) ∷ (125, 340) ∷ (126, 341) ∷ (127, 342) ∷ (128, 343) ∷ (129, 344) ∷ (134, 345) ∷
+    (136, 346) ∷ (137, 347) ∷ [])
     []
 
 -- after ProgramText ^let ^fun Variable Interface Union' ^-> Ands '&&
-abbrev pub state_415 : Row
-state_415 = at
-    ((330, 2, 1180591855491065692160) ∷ [])
-    ((115, begin_at 1 330 2 1180591855491065692160) ∷
-    (116, begin_at 2 332 0 1180591855491065692160) ∷
-    (117, begin_at 2 331 0 1180591855491124426752) ∷
-    (118, begin_at 3 340 0 1180591855628563380224) ∷
-    (119, begin_at 3 339 0 1180591855628563380224) ∷
-    (120, begin_at 4 344 0 1180591855630442428416) ∷
-    (121, begin_at 4 343 0 1180591855630442428416) ∷
-    (122, begin_at 5 352 0 1180618877228340869120) ∷
-    (123, begin_at 5 351 0 1180618877228340869120) ∷
-    (124, begin_at 6 365 0 1285534734147566696448) ∷
-    (125, begin_at 6 364 0 1285534734147566696448) ∷
-    (126, begin_at 7 369 0 1285534734181926434816) ∷
-    (131, begin_at 7 368 0 1285534734181926434816) ∷
-    (133, begin_at 8 381 0 1285534734181926434816) ∷
-    (134, begin_at 9 384 0 1285534734181926434816) ∷ [])
-    ((17, (1, 335)) ∷ (19, (1, 336)) ∷ (21, (1, 337)) ∷ (23, (1, 338)) ∷ (55, (0, 346)) ∷
-    (56, (0, 347)) ∷ (57, (0, 348)) ∷ (58, (0, 349)) ∷ (59, (0, 350)) ∷ (60, (0, 351)) ∷
-    (61, (0, 352)) ∷ (63, (0, 353)) ∷ (64, (0, 354)) ∷ (66, (0, 355)) ∷ [])
-    ((115, 534) ∷ (116, 321) ∷ (117, 322) ∷ (118, 323) ∷ (119, 324) ∷ (120, 325) ∷ (121, 326) ∷
-    (122, 327) ∷ (123, 328) ∷ (124, 329) ∷ (125, 330) ∷ (126, 331) ∷ (131, 332) ∷ (133, 333) ∷
-    (134, 334) ∷ [])
+abbrev pub state_433 : Row
+state_433 = at
+    ((342, 2, 75594767160299770986496) ∷ [])
+    ((119, begin_at 1 342 2 75594767160299770986496) ∷
+    (120, begin_at 2 344 0 75594767160299770986496) ∷
+    (121, begin_at 2 343 0 75594767160299888441344) ∷
+    (122, begin_at 3 352 0 75594767160849644255232) ∷
+    (123, begin_at 3 351 0 75594767160849644255232) ∷
+    (124, begin_at 4 356 0 75594767160853402351616) ∷
+    (125, begin_at 4 355 0 75594767160853402351616) ∷
+    (126, begin_at 5 364 0 75594875247244727678976) ∷
+    (127, begin_at 5 363 0 75594875247244727678976) ∷
+    (128, begin_at 6 379 0 82309490090075009972224) ∷
+    (129, begin_at 6 378 0 82309490090075009972224) ∷
+    (134, begin_at 7 382 0 82309490090281168533504) ∷
+    (136, begin_at 8 395 0 82309490090281168533504) ∷
+    (137, begin_at 9 398 0 82309490090281168533504) ∷ [])
+    ((18, (1, 348)) ∷ (20, (1, 349)) ∷ (22, (1, 350)) ∷ (24, (1, 351)) ∷ (57, (0, 359)) ∷
+    (58, (0, 360)) ∷ (59, (0, 361)) ∷ (60, (0, 362)) ∷ (61, (0, 363)) ∷ (62, (0, 364)) ∷
+    (63, (0, 365)) ∷ (66, (0, 366)) ∷ (67, (0, 367)) ∷ (69, (0, 368)) ∷ (70, (0, 369)) ∷
+    (72, (0, 370)) ∷ [])
+    ((119, 557) ∷ (120, 335) ∷ (121, 336) ∷ (122, 337) ∷ (123, 338) ∷ (124, 339) ∷ (125, 340) ∷
+    (126, 341) ∷ (127, 342) ∷ (128, 343) ∷ (129, 344) ∷ (134, 345) ∷ (136, 346) ∷ (137, 347) ∷ [])
     []
 
 -- after ProgramText ^let ^fun Variable Interface Union' ^-> Cmp '&&
-abbrev pub state_416 : Row
-state_416 = at
-    ((329, 2, 1180591855491065692160) ∷ [])
-    ((115, begin_at 1 329 2 1180591855491065692160) ∷
-    (116, begin_at 2 332 0 1180591855491065692160) ∷
-    (117, begin_at 2 331 0 1180591855491124426752) ∷
-    (118, begin_at 3 340 0 1180591855628563380224) ∷
-    (119, begin_at 3 339 0 1180591855628563380224) ∷
-    (120, begin_at 4 344 0 1180591855630442428416) ∷
-    (121, begin_at 4 343 0 1180591855630442428416) ∷
-    (122, begin_at 5 352 0 1180618877228340869120) ∷
-    (123, begin_at 5 351 0 1180618877228340869120) ∷
-    (124, begin_at 6 365 0 1285534734147566696448) ∷
-    (125, begin_at 6 364 0 1285534734147566696448) ∷
-    (126, begin_at 7 369 0 1285534734181926434816) ∷
-    (131, begin_at 7 368 0 1285534734181926434816) ∷
-    (133, begin_at 8 381 0 1285534734181926434816) ∷
-    (134, begin_at 9 384 0 1285534734181926434816) ∷ [])
-    ((17, (1, 335)) ∷ (19, (1, 336)) ∷ (21, (1, 337)) ∷ (23, (1, 338)) ∷ (55, (0, 346)) ∷
-    (56, (0, 347)) ∷ (57, (0, 348)) ∷ (58, (0, 349)) ∷ (59, (0, 350)) ∷ (60, (0, 351)) ∷
-    (61, (0, 352)) ∷ (63, (0, 353)) ∷ (64, (0, 354)) ∷ (66, (0, 355)) ∷ [])
-    ((115, 535) ∷ (116, 321) ∷ (117, 322) ∷ (118, 323) ∷ (119, 324) ∷ (120, 325) ∷ (121, 326) ∷
-    (122, 327) ∷ (123, 328) ∷ (124, 329) ∷ (125, 330) ∷ (126, 331) ∷ (131, 332) ∷ (133, 333) ∷
-    (134, 334) ∷ [])
+abbrev pub state_434 : Row
+state_434 = at
+    ((341, 2, 75594767160299770986496) ∷ [])
+    ((119, begin_at 1 341 2 75594767160299770986496) ∷
+    (120, begin_at 2 344 0 75594767160299770986496) ∷
+    (121, begin_at 2 343 0 75594767160299888441344) ∷
+    (122, begin_at 3 352 0 75594767160849644255232) ∷
+    (123, begin_at 3 351 0 75594767160849644255232) ∷
+    (124, begin_at 4 356 0 75594767160853402351616) ∷
+    (125, begin_at 4 355 0 75594767160853402351616) ∷
+    (126, begin_at 5 364 0 75594875247244727678976) ∷
+    (127, begin_at 5 363 0 75594875247244727678976) ∷
+    (128, begin_at 6 379 0 82309490090075009972224) ∷
+    (129, begin_at 6 378 0 82309490090075009972224) ∷
+    (134, begin_at 7 382 0 82309490090281168533504) ∷
+    (136, begin_at 8 395 0 82309490090281168533504) ∷
+    (137, begin_at 9 398 0 82309490090281168533504) ∷ [])
+    ((18, (1, 348)) ∷ (20, (1, 349)) ∷ (22, (1, 350)) ∷ (24, (1, 351)) ∷ (57, (0, 359)) ∷
+    (58, (0, 360)) ∷ (59, (0, 361)) ∷ (60, (0, 362)) ∷ (61, (0, 363)) ∷ (62, (0, 364)) ∷
+    (63, (0, 365)) ∷ (66, (0, 366)) ∷ (67, (0, 367)) ∷ (69, (0, 368)) ∷ (70, (0, 369)) ∷
+    (72, (0, 370)) ∷ [])
+    ((119, 558) ∷ (120, 335) ∷ (121, 336) ∷ (122, 337) ∷ (123, 338) ∷ (124, 339) ∷ (125, 340) ∷
+    (126, 341) ∷ (127, 342) ∷ (128, 343) ∷ (129, 344) ∷ (134, 345) ∷ (136, 346) ∷ (137, 347) ∷ [])
     []
 
 -- after ProgramText ^let ^fun Variable Interface Union' ^-> Cat '!=
-abbrev pub state_417 : Row
-state_417 = at
-    ((334, 2, 1180591855491065692160) ∷ [])
-    ((117, begin_at 1 334 2 1180591855491065692160) ∷
-    (118, begin_at 2 340 0 1180591855628504645632) ∷
-    (119, begin_at 2 339 0 1180591855628504645632) ∷
-    (120, begin_at 3 344 0 1180591855630383693824) ∷
-    (121, begin_at 3 343 0 1180591855630383693824) ∷
-    (122, begin_at 4 352 0 1180618877228282134528) ∷
-    (123, begin_at 4 351 0 1180618877228282134528) ∷
-    (124, begin_at 5 365 0 1285534734147507961856) ∷
-    (125, begin_at 5 364 0 1285534734147507961856) ∷
-    (126, begin_at 6 369 0 1285534734181867700224) ∷
-    (131, begin_at 6 368 0 1285534734181867700224) ∷
-    (133, begin_at 7 381 0 1285534734181867700224) ∷
-    (134, begin_at 8 384 0 1285534734181867700224) ∷ [])
-    ((17, (1, 335)) ∷ (19, (1, 336)) ∷ (21, (1, 337)) ∷ (23, (1, 338)) ∷ (55, (0, 346)) ∷
-    (56, (0, 347)) ∷ (57, (0, 348)) ∷ (58, (0, 349)) ∷ (59, (0, 350)) ∷ (60, (0, 351)) ∷
-    (61, (0, 352)) ∷ (63, (0, 353)) ∷ (64, (0, 354)) ∷ (66, (0, 355)) ∷ [])
-    ((117, 536) ∷ (118, 323) ∷ (119, 324) ∷ (120, 325) ∷ (121, 326) ∷ (122, 327) ∷ (123, 328) ∷
-    (124, 329) ∷ (125, 330) ∷ (126, 331) ∷ (131, 332) ∷ (133, 333) ∷ (134, 334) ∷ [])
+abbrev pub state_435 : Row
+state_435 = at
+    ((346, 2, 75594767160299770986496) ∷ [])
+    ((121, begin_at 1 346 2 75594767160299770986496) ∷
+    (122, begin_at 2 352 0 75594767160849526800384) ∷
+    (123, begin_at 2 351 0 75594767160849526800384) ∷
+    (124, begin_at 3 356 0 75594767160853284896768) ∷
+    (125, begin_at 3 355 0 75594767160853284896768) ∷
+    (126, begin_at 4 364 0 75594875247244610224128) ∷
+    (127, begin_at 4 363 0 75594875247244610224128) ∷
+    (128, begin_at 5 379 0 82309490090074892517376) ∷
+    (129, begin_at 5 378 0 82309490090074892517376) ∷
+    (134, begin_at 6 382 0 82309490090281051078656) ∷
+    (136, begin_at 7 395 0 82309490090281051078656) ∷
+    (137, begin_at 8 398 0 82309490090281051078656) ∷ [])
+    ((18, (1, 348)) ∷ (20, (1, 349)) ∷ (22, (1, 350)) ∷ (24, (1, 351)) ∷ (57, (0, 359)) ∷
+    (58, (0, 360)) ∷ (59, (0, 361)) ∷ (60, (0, 362)) ∷ (61, (0, 363)) ∷ (62, (0, 364)) ∷
+    (63, (0, 365)) ∷ (66, (0, 366)) ∷ (67, (0, 367)) ∷ (69, (0, 368)) ∷ (70, (0, 369)) ∷
+    (72, (0, 370)) ∷ [])
+    ((121, 559) ∷ (122, 337) ∷ (123, 338) ∷ (124, 339) ∷ (125, 340) ∷ (126, 341) ∷ (127, 342) ∷
+    (128, 343) ∷ (129, 344) ∷ (134, 345) ∷ (136, 346) ∷ (137, 347) ∷ [])
     []
 
 -- after ProgramText ^let ^fun Variable Interface Union' ^-> Cat '<=
-abbrev pub state_418 : Row
-state_418 = at
-    ((336, 2, 1180591855491065692160) ∷ [])
-    ((117, begin_at 1 336 2 1180591855491065692160) ∷
-    (118, begin_at 2 340 0 1180591855628504645632) ∷
-    (119, begin_at 2 339 0 1180591855628504645632) ∷
-    (120, begin_at 3 344 0 1180591855630383693824) ∷
-    (121, begin_at 3 343 0 1180591855630383693824) ∷
-    (122, begin_at 4 352 0 1180618877228282134528) ∷
-    (123, begin_at 4 351 0 1180618877228282134528) ∷
-    (124, begin_at 5 365 0 1285534734147507961856) ∷
-    (125, begin_at 5 364 0 1285534734147507961856) ∷
-    (126, begin_at 6 369 0 1285534734181867700224) ∷
-    (131, begin_at 6 368 0 1285534734181867700224) ∷
-    (133, begin_at 7 381 0 1285534734181867700224) ∷
-    (134, begin_at 8 384 0 1285534734181867700224) ∷ [])
-    ((17, (1, 335)) ∷ (19, (1, 336)) ∷ (21, (1, 337)) ∷ (23, (1, 338)) ∷ (55, (0, 346)) ∷
-    (56, (0, 347)) ∷ (57, (0, 348)) ∷ (58, (0, 349)) ∷ (59, (0, 350)) ∷ (60, (0, 351)) ∷
-    (61, (0, 352)) ∷ (63, (0, 353)) ∷ (64, (0, 354)) ∷ (66, (0, 355)) ∷ [])
-    ((117, 537) ∷ (118, 323) ∷ (119, 324) ∷ (120, 325) ∷ (121, 326) ∷ (122, 327) ∷ (123, 328) ∷
-    (124, 329) ∷ (125, 330) ∷ (126, 331) ∷ (131, 332) ∷ (133, 333) ∷ (134, 334) ∷ [])
+abbrev pub state_436 : Row
+state_436 = at
+    ((348, 2, 75594767160299770986496) ∷ [])
+    ((121, begin_at 1 348 2 75594767160299770986496) ∷
+    (122, begin_at 2 352 0 75594767160849526800384) ∷
+    (123, begin_at 2 351 0 75594767160849526800384) ∷
+    (124, begin_at 3 356 0 75594767160853284896768) ∷
+    (125, begin_at 3 355 0 75594767160853284896768) ∷
+    (126, begin_at 4 364 0 75594875247244610224128) ∷
+    (127, begin_at 4 363 0 75594875247244610224128) ∷
+    (128, begin_at 5 379 0 82309490090074892517376) ∷
+    (129, begin_at 5 378 0 82309490090074892517376) ∷
+    (134, begin_at 6 382 0 82309490090281051078656) ∷
+    (136, begin_at 7 395 0 82309490090281051078656) ∷
+    (137, begin_at 8 398 0 82309490090281051078656) ∷ [])
+    ((18, (1, 348)) ∷ (20, (1, 349)) ∷ (22, (1, 350)) ∷ (24, (1, 351)) ∷ (57, (0, 359)) ∷
+    (58, (0, 360)) ∷ (59, (0, 361)) ∷ (60, (0, 362)) ∷ (61, (0, 363)) ∷ (62, (0, 364)) ∷
+    (63, (0, 365)) ∷ (66, (0, 366)) ∷ (67, (0, 367)) ∷ (69, (0, 368)) ∷ (70, (0, 369)) ∷
+    (72, (0, 370)) ∷ [])
+    ((121, 560) ∷ (122, 337) ∷ (123, 338) ∷ (124, 339) ∷ (125, 340) ∷ (126, 341) ∷ (127, 342) ∷
+    (128, 343) ∷ (129, 344) ∷ (134, 345) ∷ (136, 346) ∷ (137, 347) ∷ [])
     []
 
 -- after ProgramText ^let ^fun Variable Interface Union' ^-> Cat '>=
-abbrev pub state_419 : Row
-state_419 = at
-    ((338, 2, 1180591855491065692160) ∷ [])
-    ((117, begin_at 1 338 2 1180591855491065692160) ∷
-    (118, begin_at 2 340 0 1180591855628504645632) ∷
-    (119, begin_at 2 339 0 1180591855628504645632) ∷
-    (120, begin_at 3 344 0 1180591855630383693824) ∷
-    (121, begin_at 3 343 0 1180591855630383693824) ∷
-    (122, begin_at 4 352 0 1180618877228282134528) ∷
-    (123, begin_at 4 351 0 1180618877228282134528) ∷
-    (124, begin_at 5 365 0 1285534734147507961856) ∷
-    (125, begin_at 5 364 0 1285534734147507961856) ∷
-    (126, begin_at 6 369 0 1285534734181867700224) ∷
-    (131, begin_at 6 368 0 1285534734181867700224) ∷
-    (133, begin_at 7 381 0 1285534734181867700224) ∷
-    (134, begin_at 8 384 0 1285534734181867700224) ∷ [])
-    ((17, (1, 335)) ∷ (19, (1, 336)) ∷ (21, (1, 337)) ∷ (23, (1, 338)) ∷ (55, (0, 346)) ∷
-    (56, (0, 347)) ∷ (57, (0, 348)) ∷ (58, (0, 349)) ∷ (59, (0, 350)) ∷ (60, (0, 351)) ∷
-    (61, (0, 352)) ∷ (63, (0, 353)) ∷ (64, (0, 354)) ∷ (66, (0, 355)) ∷ [])
-    ((117, 538) ∷ (118, 323) ∷ (119, 324) ∷ (120, 325) ∷ (121, 326) ∷ (122, 327) ∷ (123, 328) ∷
-    (124, 329) ∷ (125, 330) ∷ (126, 331) ∷ (131, 332) ∷ (133, 333) ∷ (134, 334) ∷ [])
+abbrev pub state_437 : Row
+state_437 = at
+    ((350, 2, 75594767160299770986496) ∷ [])
+    ((121, begin_at 1 350 2 75594767160299770986496) ∷
+    (122, begin_at 2 352 0 75594767160849526800384) ∷
+    (123, begin_at 2 351 0 75594767160849526800384) ∷
+    (124, begin_at 3 356 0 75594767160853284896768) ∷
+    (125, begin_at 3 355 0 75594767160853284896768) ∷
+    (126, begin_at 4 364 0 75594875247244610224128) ∷
+    (127, begin_at 4 363 0 75594875247244610224128) ∷
+    (128, begin_at 5 379 0 82309490090074892517376) ∷
+    (129, begin_at 5 378 0 82309490090074892517376) ∷
+    (134, begin_at 6 382 0 82309490090281051078656) ∷
+    (136, begin_at 7 395 0 82309490090281051078656) ∷
+    (137, begin_at 8 398 0 82309490090281051078656) ∷ [])
+    ((18, (1, 348)) ∷ (20, (1, 349)) ∷ (22, (1, 350)) ∷ (24, (1, 351)) ∷ (57, (0, 359)) ∷
+    (58, (0, 360)) ∷ (59, (0, 361)) ∷ (60, (0, 362)) ∷ (61, (0, 363)) ∷ (62, (0, 364)) ∷
+    (63, (0, 365)) ∷ (66, (0, 366)) ∷ (67, (0, 367)) ∷ (69, (0, 368)) ∷ (70, (0, 369)) ∷
+    (72, (0, 370)) ∷ [])
+    ((121, 561) ∷ (122, 337) ∷ (123, 338) ∷ (124, 339) ∷ (125, 340) ∷ (126, 341) ∷ (127, 342) ∷
+    (128, 343) ∷ (129, 344) ∷ (134, 345) ∷ (136, 346) ∷ (137, 347) ∷ [])
     []
 
 -- after ProgramText ^let ^fun Variable Interface Union' ^-> Cat '<
-abbrev pub state_420 : Row
-state_420 = at
-    ((335, 2, 1180591855491065692160) ∷ [])
-    ((117, begin_at 1 335 2 1180591855491065692160) ∷
-    (118, begin_at 2 340 0 1180591855628504645632) ∷
-    (119, begin_at 2 339 0 1180591855628504645632) ∷
-    (120, begin_at 3 344 0 1180591855630383693824) ∷
-    (121, begin_at 3 343 0 1180591855630383693824) ∷
-    (122, begin_at 4 352 0 1180618877228282134528) ∷
-    (123, begin_at 4 351 0 1180618877228282134528) ∷
-    (124, begin_at 5 365 0 1285534734147507961856) ∷
-    (125, begin_at 5 364 0 1285534734147507961856) ∷
-    (126, begin_at 6 369 0 1285534734181867700224) ∷
-    (131, begin_at 6 368 0 1285534734181867700224) ∷
-    (133, begin_at 7 381 0 1285534734181867700224) ∷
-    (134, begin_at 8 384 0 1285534734181867700224) ∷ [])
-    ((17, (1, 335)) ∷ (19, (1, 336)) ∷ (21, (1, 337)) ∷ (23, (1, 338)) ∷ (55, (0, 346)) ∷
-    (56, (0, 347)) ∷ (57, (0, 348)) ∷ (58, (0, 349)) ∷ (59, (0, 350)) ∷ (60, (0, 351)) ∷
-    (61, (0, 352)) ∷ (63, (0, 353)) ∷ (64, (0, 354)) ∷ (66, (0, 355)) ∷ [])
-    ((117, 539) ∷ (118, 323) ∷ (119, 324) ∷ (120, 325) ∷ (121, 326) ∷ (122, 327) ∷ (123, 328) ∷
-    (124, 329) ∷ (125, 330) ∷ (126, 331) ∷ (131, 332) ∷ (133, 333) ∷ (134, 334) ∷ [])
+abbrev pub state_438 : Row
+state_438 = at
+    ((347, 2, 75594767160299770986496) ∷ [])
+    ((121, begin_at 1 347 2 75594767160299770986496) ∷
+    (122, begin_at 2 352 0 75594767160849526800384) ∷
+    (123, begin_at 2 351 0 75594767160849526800384) ∷
+    (124, begin_at 3 356 0 75594767160853284896768) ∷
+    (125, begin_at 3 355 0 75594767160853284896768) ∷
+    (126, begin_at 4 364 0 75594875247244610224128) ∷
+    (127, begin_at 4 363 0 75594875247244610224128) ∷
+    (128, begin_at 5 379 0 82309490090074892517376) ∷
+    (129, begin_at 5 378 0 82309490090074892517376) ∷
+    (134, begin_at 6 382 0 82309490090281051078656) ∷
+    (136, begin_at 7 395 0 82309490090281051078656) ∷
+    (137, begin_at 8 398 0 82309490090281051078656) ∷ [])
+    ((18, (1, 348)) ∷ (20, (1, 349)) ∷ (22, (1, 350)) ∷ (24, (1, 351)) ∷ (57, (0, 359)) ∷
+    (58, (0, 360)) ∷ (59, (0, 361)) ∷ (60, (0, 362)) ∷ (61, (0, 363)) ∷ (62, (0, 364)) ∷
+    (63, (0, 365)) ∷ (66, (0, 366)) ∷ (67, (0, 367)) ∷ (69, (0, 368)) ∷ (70, (0, 369)) ∷
+    (72, (0, 370)) ∷ [])
+    ((121, 562) ∷ (122, 337) ∷ (123, 338) ∷ (124, 339) ∷ (125, 340) ∷ (126, 341) ∷ (127, 342) ∷
+    (128, 343) ∷ (129, 344) ∷ (134, 345) ∷ (136, 346) ∷ (137, 347) ∷ [])
     []
 
 -- after ProgramText ^let ^fun Variable Interface Union' ^-> Cat '>
-abbrev pub state_421 : Row
-state_421 = at
-    ((337, 2, 1180591855491065692160) ∷ [])
-    ((117, begin_at 1 337 2 1180591855491065692160) ∷
-    (118, begin_at 2 340 0 1180591855628504645632) ∷
-    (119, begin_at 2 339 0 1180591855628504645632) ∷
-    (120, begin_at 3 344 0 1180591855630383693824) ∷
-    (121, begin_at 3 343 0 1180591855630383693824) ∷
-    (122, begin_at 4 352 0 1180618877228282134528) ∷
-    (123, begin_at 4 351 0 1180618877228282134528) ∷
-    (124, begin_at 5 365 0 1285534734147507961856) ∷
-    (125, begin_at 5 364 0 1285534734147507961856) ∷
-    (126, begin_at 6 369 0 1285534734181867700224) ∷
-    (131, begin_at 6 368 0 1285534734181867700224) ∷
-    (133, begin_at 7 381 0 1285534734181867700224) ∷
-    (134, begin_at 8 384 0 1285534734181867700224) ∷ [])
-    ((17, (1, 335)) ∷ (19, (1, 336)) ∷ (21, (1, 337)) ∷ (23, (1, 338)) ∷ (55, (0, 346)) ∷
-    (56, (0, 347)) ∷ (57, (0, 348)) ∷ (58, (0, 349)) ∷ (59, (0, 350)) ∷ (60, (0, 351)) ∷
-    (61, (0, 352)) ∷ (63, (0, 353)) ∷ (64, (0, 354)) ∷ (66, (0, 355)) ∷ [])
-    ((117, 540) ∷ (118, 323) ∷ (119, 324) ∷ (120, 325) ∷ (121, 326) ∷ (122, 327) ∷ (123, 328) ∷
-    (124, 329) ∷ (125, 330) ∷ (126, 331) ∷ (131, 332) ∷ (133, 333) ∷ (134, 334) ∷ [])
+abbrev pub state_439 : Row
+state_439 = at
+    ((349, 2, 75594767160299770986496) ∷ [])
+    ((121, begin_at 1 349 2 75594767160299770986496) ∷
+    (122, begin_at 2 352 0 75594767160849526800384) ∷
+    (123, begin_at 2 351 0 75594767160849526800384) ∷
+    (124, begin_at 3 356 0 75594767160853284896768) ∷
+    (125, begin_at 3 355 0 75594767160853284896768) ∷
+    (126, begin_at 4 364 0 75594875247244610224128) ∷
+    (127, begin_at 4 363 0 75594875247244610224128) ∷
+    (128, begin_at 5 379 0 82309490090074892517376) ∷
+    (129, begin_at 5 378 0 82309490090074892517376) ∷
+    (134, begin_at 6 382 0 82309490090281051078656) ∷
+    (136, begin_at 7 395 0 82309490090281051078656) ∷
+    (137, begin_at 8 398 0 82309490090281051078656) ∷ [])
+    ((18, (1, 348)) ∷ (20, (1, 349)) ∷ (22, (1, 350)) ∷ (24, (1, 351)) ∷ (57, (0, 359)) ∷
+    (58, (0, 360)) ∷ (59, (0, 361)) ∷ (60, (0, 362)) ∷ (61, (0, 363)) ∷ (62, (0, 364)) ∷
+    (63, (0, 365)) ∷ (66, (0, 366)) ∷ (67, (0, 367)) ∷ (69, (0, 368)) ∷ (70, (0, 369)) ∷
+    (72, (0, 370)) ∷ [])
+    ((121, 563) ∷ (122, 337) ∷ (123, 338) ∷ (124, 339) ∷ (125, 340) ∷ (126, 341) ∷ (127, 342) ∷
+    (128, 343) ∷ (129, 344) ∷ (134, 345) ∷ (136, 346) ∷ (137, 347) ∷ [])
     []
 
 -- after ProgramText ^let ^fun Variable Interface Union' ^-> Cat '=
-abbrev pub state_422 : Row
-state_422 = at
-    ((333, 2, 1180591855491065692160) ∷ [])
-    ((117, begin_at 1 333 2 1180591855491065692160) ∷
-    (118, begin_at 2 340 0 1180591855628504645632) ∷
-    (119, begin_at 2 339 0 1180591855628504645632) ∷
-    (120, begin_at 3 344 0 1180591855630383693824) ∷
-    (121, begin_at 3 343 0 1180591855630383693824) ∷
-    (122, begin_at 4 352 0 1180618877228282134528) ∷
-    (123, begin_at 4 351 0 1180618877228282134528) ∷
-    (124, begin_at 5 365 0 1285534734147507961856) ∷
-    (125, begin_at 5 364 0 1285534734147507961856) ∷
-    (126, begin_at 6 369 0 1285534734181867700224) ∷
-    (131, begin_at 6 368 0 1285534734181867700224) ∷
-    (133, begin_at 7 381 0 1285534734181867700224) ∷
-    (134, begin_at 8 384 0 1285534734181867700224) ∷ [])
-    ((17, (1, 335)) ∷ (19, (1, 336)) ∷ (21, (1, 337)) ∷ (23, (1, 338)) ∷ (55, (0, 346)) ∷
-    (56, (0, 347)) ∷ (57, (0, 348)) ∷ (58, (0, 349)) ∷ (59, (0, 350)) ∷ (60, (0, 351)) ∷
-    (61, (0, 352)) ∷ (63, (0, 353)) ∷ (64, (0, 354)) ∷ (66, (0, 355)) ∷ [])
-    ((117, 541) ∷ (118, 323) ∷ (119, 324) ∷ (120, 325) ∷ (121, 326) ∷ (122, 327) ∷ (123, 328) ∷
-    (124, 329) ∷ (125, 330) ∷ (126, 331) ∷ (131, 332) ∷ (133, 333) ∷ (134, 334) ∷ [])
+abbrev pub state_440 : Row
+state_440 = at
+    ((345, 2, 75594767160299770986496) ∷ [])
+    ((121, begin_at 1 345 2 75594767160299770986496) ∷
+    (122, begin_at 2 352 0 75594767160849526800384) ∷
+    (123, begin_at 2 351 0 75594767160849526800384) ∷
+    (124, begin_at 3 356 0 75594767160853284896768) ∷
+    (125, begin_at 3 355 0 75594767160853284896768) ∷
+    (126, begin_at 4 364 0 75594875247244610224128) ∷
+    (127, begin_at 4 363 0 75594875247244610224128) ∷
+    (128, begin_at 5 379 0 82309490090074892517376) ∷
+    (129, begin_at 5 378 0 82309490090074892517376) ∷
+    (134, begin_at 6 382 0 82309490090281051078656) ∷
+    (136, begin_at 7 395 0 82309490090281051078656) ∷
+    (137, begin_at 8 398 0 82309490090281051078656) ∷ [])
+    ((18, (1, 348)) ∷ (20, (1, 349)) ∷ (22, (1, 350)) ∷ (24, (1, 351)) ∷ (57, (0, 359)) ∷
+    (58, (0, 360)) ∷ (59, (0, 361)) ∷ (60, (0, 362)) ∷ (61, (0, 363)) ∷ (62, (0, 364)) ∷
+    (63, (0, 365)) ∷ (66, (0, 366)) ∷ (67, (0, 367)) ∷ (69, (0, 368)) ∷ (70, (0, 369)) ∷
+    (72, (0, 370)) ∷ [])
+    ((121, 564) ∷ (122, 337) ∷ (123, 338) ∷ (124, 339) ∷ (125, 340) ∷ (126, 341) ∷ (127, 342) ∷
+    (128, 343) ∷ (129, 344) ∷ (134, 345) ∷ (136, 346) ∷ (137, 347) ∷ [])
     []
 
 -- after ProgramText ^let ^fun Variable Interface Union' ^-> Cats '@
-abbrev pub state_423 : Row
-state_423 = at
-    ((342, 2, 1180591855628563380224) ∷ [])
-    ((119, begin_at 1 342 2 1180591855628563380224) ∷
-    (120, begin_at 2 344 0 1180591855630442428416) ∷
-    (121, begin_at 2 343 0 1180591855630442428416) ∷
-    (122, begin_at 3 352 0 1180618877228340869120) ∷
-    (123, begin_at 3 351 0 1180618877228340869120) ∷
-    (124, begin_at 4 365 0 1285534734147566696448) ∷
-    (125, begin_at 4 364 0 1285534734147566696448) ∷
-    (126, begin_at 5 369 0 1285534734181926434816) ∷
-    (131, begin_at 5 368 0 1285534734181926434816) ∷
-    (133, begin_at 6 381 0 1285534734181926434816) ∷
-    (134, begin_at 7 384 0 1285534734181926434816) ∷ [])
-    ((17, (1, 335)) ∷ (19, (1, 336)) ∷ (21, (1, 337)) ∷ (23, (1, 338)) ∷ (55, (0, 346)) ∷
-    (56, (0, 347)) ∷ (57, (0, 348)) ∷ (58, (0, 349)) ∷ (59, (0, 350)) ∷ (60, (0, 351)) ∷
-    (61, (0, 352)) ∷ (63, (0, 353)) ∷ (64, (0, 354)) ∷ (66, (0, 355)) ∷ [])
-    ((119, 542) ∷ (120, 325) ∷ (121, 326) ∷ (122, 327) ∷ (123, 328) ∷ (124, 329) ∷ (125, 330) ∷
-    (126, 331) ∷ (131, 332) ∷ (133, 333) ∷ (134, 334) ∷ [])
+abbrev pub state_441 : Row
+state_441 = at
+    ((354, 2, 75594767160849644255232) ∷ [])
+    ((123, begin_at 1 354 2 75594767160849644255232) ∷
+    (124, begin_at 2 356 0 75594767160853402351616) ∷
+    (125, begin_at 2 355 0 75594767160853402351616) ∷
+    (126, begin_at 3 364 0 75594875247244727678976) ∷
+    (127, begin_at 3 363 0 75594875247244727678976) ∷
+    (128, begin_at 4 379 0 82309490090075009972224) ∷
+    (129, begin_at 4 378 0 82309490090075009972224) ∷
+    (134, begin_at 5 382 0 82309490090281168533504) ∷
+    (136, begin_at 6 395 0 82309490090281168533504) ∷
+    (137, begin_at 7 398 0 82309490090281168533504) ∷ [])
+    ((18, (1, 348)) ∷ (20, (1, 349)) ∷ (22, (1, 350)) ∷ (24, (1, 351)) ∷ (57, (0, 359)) ∷
+    (58, (0, 360)) ∷ (59, (0, 361)) ∷ (60, (0, 362)) ∷ (61, (0, 363)) ∷ (62, (0, 364)) ∷
+    (63, (0, 365)) ∷ (66, (0, 366)) ∷ (67, (0, 367)) ∷ (69, (0, 368)) ∷ (70, (0, 369)) ∷
+    (72, (0, 370)) ∷ [])
+    ((123, 565) ∷ (124, 339) ∷ (125, 340) ∷ (126, 341) ∷ (127, 342) ∷ (128, 343) ∷ (129, 344) ∷
+    (134, 345) ∷ (136, 346) ∷ (137, 347) ∷ [])
     []
 
 -- after ProgramText ^let ^fun Variable Interface Union' ^-> Sum '@
-abbrev pub state_424 : Row
-state_424 = at
-    ((341, 2, 1180591855628563380224) ∷ [])
-    ((119, begin_at 1 341 2 1180591855628563380224) ∷
-    (120, begin_at 2 344 0 1180591855630442428416) ∷
-    (121, begin_at 2 343 0 1180591855630442428416) ∷
-    (122, begin_at 3 352 0 1180618877228340869120) ∷
-    (123, begin_at 3 351 0 1180618877228340869120) ∷
-    (124, begin_at 4 365 0 1285534734147566696448) ∷
-    (125, begin_at 4 364 0 1285534734147566696448) ∷
-    (126, begin_at 5 369 0 1285534734181926434816) ∷
-    (131, begin_at 5 368 0 1285534734181926434816) ∷
-    (133, begin_at 6 381 0 1285534734181926434816) ∷
-    (134, begin_at 7 384 0 1285534734181926434816) ∷ [])
-    ((17, (1, 335)) ∷ (19, (1, 336)) ∷ (21, (1, 337)) ∷ (23, (1, 338)) ∷ (55, (0, 346)) ∷
-    (56, (0, 347)) ∷ (57, (0, 348)) ∷ (58, (0, 349)) ∷ (59, (0, 350)) ∷ (60, (0, 351)) ∷
-    (61, (0, 352)) ∷ (63, (0, 353)) ∷ (64, (0, 354)) ∷ (66, (0, 355)) ∷ [])
-    ((119, 543) ∷ (120, 325) ∷ (121, 326) ∷ (122, 327) ∷ (123, 328) ∷ (124, 329) ∷ (125, 330) ∷
-    (126, 331) ∷ (131, 332) ∷ (133, 333) ∷ (134, 334) ∷ [])
+abbrev pub state_442 : Row
+state_442 = at
+    ((353, 2, 75594767160849644255232) ∷ [])
+    ((123, begin_at 1 353 2 75594767160849644255232) ∷
+    (124, begin_at 2 356 0 75594767160853402351616) ∷
+    (125, begin_at 2 355 0 75594767160853402351616) ∷
+    (126, begin_at 3 364 0 75594875247244727678976) ∷
+    (127, begin_at 3 363 0 75594875247244727678976) ∷
+    (128, begin_at 4 379 0 82309490090075009972224) ∷
+    (129, begin_at 4 378 0 82309490090075009972224) ∷
+    (134, begin_at 5 382 0 82309490090281168533504) ∷
+    (136, begin_at 6 395 0 82309490090281168533504) ∷
+    (137, begin_at 7 398 0 82309490090281168533504) ∷ [])
+    ((18, (1, 348)) ∷ (20, (1, 349)) ∷ (22, (1, 350)) ∷ (24, (1, 351)) ∷ (57, (0, 359)) ∷
+    (58, (0, 360)) ∷ (59, (0, 361)) ∷ (60, (0, 362)) ∷ (61, (0, 363)) ∷ (62, (0, 364)) ∷
+    (63, (0, 365)) ∷ (66, (0, 366)) ∷ (67, (0, 367)) ∷ (69, (0, 368)) ∷ (70, (0, 369)) ∷
+    (72, (0, 370)) ∷ [])
+    ((123, 566) ∷ (124, 339) ∷ (125, 340) ∷ (126, 341) ∷ (127, 342) ∷ (128, 343) ∷ (129, 344) ∷
+    (134, 345) ∷ (136, 346) ∷ (137, 347) ∷ [])
     []
 
 -- after ProgramText ^let ^fun Variable Interface Union' ^-> Sums '+
-abbrev pub state_425 : Row
-state_425 = at
-    ((348, 2, 1180591855630442428416) ∷ [])
-    ((121, begin_at 1 348 2 1180591855630442428416) ∷
-    (122, begin_at 2 352 0 1180618877228340869120) ∷
-    (123, begin_at 2 351 0 1180618877228340869120) ∷
-    (124, begin_at 3 365 0 1285534734147566696448) ∷
-    (125, begin_at 3 364 0 1285534734147566696448) ∷
-    (126, begin_at 4 369 0 1285534734181926434816) ∷
-    (131, begin_at 4 368 0 1285534734181926434816) ∷
-    (133, begin_at 5 381 0 1285534734181926434816) ∷
-    (134, begin_at 6 384 0 1285534734181926434816) ∷ [])
-    ((17, (1, 335)) ∷ (19, (1, 336)) ∷ (21, (1, 337)) ∷ (23, (1, 338)) ∷ (55, (0, 346)) ∷
-    (56, (0, 347)) ∷ (57, (0, 348)) ∷ (58, (0, 349)) ∷ (59, (0, 350)) ∷ (60, (0, 351)) ∷
-    (61, (0, 352)) ∷ (63, (0, 353)) ∷ (64, (0, 354)) ∷ (66, (0, 355)) ∷ [])
-    ((121, 544) ∷ (122, 327) ∷ (123, 328) ∷ (124, 329) ∷ (125, 330) ∷ (126, 331) ∷ (131, 332) ∷
-    (133, 333) ∷ (134, 334) ∷ [])
+abbrev pub state_443 : Row
+state_443 = at
+    ((360, 2, 75594767160853402351616) ∷ [])
+    ((125, begin_at 1 360 2 75594767160853402351616) ∷
+    (126, begin_at 2 364 0 75594875247244727678976) ∷
+    (127, begin_at 2 363 0 75594875247244727678976) ∷
+    (128, begin_at 3 379 0 82309490090075009972224) ∷
+    (129, begin_at 3 378 0 82309490090075009972224) ∷
+    (134, begin_at 4 382 0 82309490090281168533504) ∷
+    (136, begin_at 5 395 0 82309490090281168533504) ∷
+    (137, begin_at 6 398 0 82309490090281168533504) ∷ [])
+    ((18, (1, 348)) ∷ (20, (1, 349)) ∷ (22, (1, 350)) ∷ (24, (1, 351)) ∷ (57, (0, 359)) ∷
+    (58, (0, 360)) ∷ (59, (0, 361)) ∷ (60, (0, 362)) ∷ (61, (0, 363)) ∷ (62, (0, 364)) ∷
+    (63, (0, 365)) ∷ (66, (0, 366)) ∷ (67, (0, 367)) ∷ (69, (0, 368)) ∷ (70, (0, 369)) ∷
+    (72, (0, 370)) ∷ [])
+    ((125, 567) ∷ (126, 341) ∷ (127, 342) ∷ (128, 343) ∷ (129, 344) ∷ (134, 345) ∷ (136, 346) ∷
+    (137, 347) ∷ [])
     []
 
 -- after ProgramText ^let ^fun Variable Interface Union' ^-> Sums '-
-abbrev pub state_426 : Row
-state_426 = at
-    ((349, 2, 1180591855630442428416) ∷ [])
-    ((121, begin_at 1 349 2 1180591855630442428416) ∷
-    (122, begin_at 2 352 0 1180618877228340869120) ∷
-    (123, begin_at 2 351 0 1180618877228340869120) ∷
-    (124, begin_at 3 365 0 1285534734147566696448) ∷
-    (125, begin_at 3 364 0 1285534734147566696448) ∷
-    (126, begin_at 4 369 0 1285534734181926434816) ∷
-    (131, begin_at 4 368 0 1285534734181926434816) ∷
-    (133, begin_at 5 381 0 1285534734181926434816) ∷
-    (134, begin_at 6 384 0 1285534734181926434816) ∷ [])
-    ((17, (1, 335)) ∷ (19, (1, 336)) ∷ (21, (1, 337)) ∷ (23, (1, 338)) ∷ (55, (0, 346)) ∷
-    (56, (0, 347)) ∷ (57, (0, 348)) ∷ (58, (0, 349)) ∷ (59, (0, 350)) ∷ (60, (0, 351)) ∷
-    (61, (0, 352)) ∷ (63, (0, 353)) ∷ (64, (0, 354)) ∷ (66, (0, 355)) ∷ [])
-    ((121, 545) ∷ (122, 327) ∷ (123, 328) ∷ (124, 329) ∷ (125, 330) ∷ (126, 331) ∷ (131, 332) ∷
-    (133, 333) ∷ (134, 334) ∷ [])
+abbrev pub state_444 : Row
+state_444 = at
+    ((361, 2, 75594767160853402351616) ∷ [])
+    ((125, begin_at 1 361 2 75594767160853402351616) ∷
+    (126, begin_at 2 364 0 75594875247244727678976) ∷
+    (127, begin_at 2 363 0 75594875247244727678976) ∷
+    (128, begin_at 3 379 0 82309490090075009972224) ∷
+    (129, begin_at 3 378 0 82309490090075009972224) ∷
+    (134, begin_at 4 382 0 82309490090281168533504) ∷
+    (136, begin_at 5 395 0 82309490090281168533504) ∷
+    (137, begin_at 6 398 0 82309490090281168533504) ∷ [])
+    ((18, (1, 348)) ∷ (20, (1, 349)) ∷ (22, (1, 350)) ∷ (24, (1, 351)) ∷ (57, (0, 359)) ∷
+    (58, (0, 360)) ∷ (59, (0, 361)) ∷ (60, (0, 362)) ∷ (61, (0, 363)) ∷ (62, (0, 364)) ∷
+    (63, (0, 365)) ∷ (66, (0, 366)) ∷ (67, (0, 367)) ∷ (69, (0, 368)) ∷ (70, (0, 369)) ∷
+    (72, (0, 370)) ∷ [])
+    ((125, 568) ∷ (126, 341) ∷ (127, 342) ∷ (128, 343) ∷ (129, 344) ∷ (134, 345) ∷ (136, 346) ∷
+    (137, 347) ∷ [])
     []
 
 -- after ProgramText ^let ^fun Variable Interface Union' ^-> Sums '\
-abbrev pub state_427 : Row
-state_427 = at
-    ((350, 2, 1180591855630442428416) ∷ [])
-    ((94, begin_at 1 350 2 1180591855630442428416) ∷ [])
-    ((39, (0, 67)) ∷ (40, (0, 68)) ∷ (41, (0, 69)) ∷ (42, (0, 70)) ∷ (43, (0, 71)) ∷ (44, (0, 72)) ∷
-    (45, (0, 73)) ∷ (46, (0, 74)) ∷ (47, (0, 75)) ∷ (48, (0, 76)) ∷ (49, (0, 77)) ∷ (50, (0, 78)) ∷
-    (51, (0, 79)) ∷ (52, (0, 80)) ∷ (53, (0, 81)) ∷ (54, (0, 82)) ∷ (55, (0, 83)) ∷ (56, (0, 84)) ∷
-    (57, (0, 85)) ∷ (58, (0, 86)) ∷ (59, (0, 87)) ∷ (65, (0, 88)) ∷ (66, (0, 89)) ∷ [])
-    ((94, 546) ∷ [])
+abbrev pub state_445 : Row
+state_445 = at
+    ((362, 2, 75594767160853402351616) ∷ [])
+    ((98, begin_at 1 362 2 75594767160853402351616) ∷ [])
+    ((41, (0, 69)) ∷ (42, (0, 70)) ∷ (43, (0, 71)) ∷ (44, (0, 72)) ∷ (45, (0, 73)) ∷ (46, (0, 74)) ∷
+    (47, (0, 75)) ∷ (48, (0, 76)) ∷ (49, (0, 77)) ∷ (50, (0, 78)) ∷ (51, (0, 79)) ∷ (52, (0, 80)) ∷
+    (53, (0, 81)) ∷ (54, (0, 82)) ∷ (55, (0, 83)) ∷ (56, (0, 84)) ∷ (57, (0, 85)) ∷ (58, (0, 86)) ∷
+    (59, (0, 87)) ∷ (60, (0, 88)) ∷ (61, (0, 89)) ∷ (62, (0, 90)) ∷ (63, (0, 91)) ∷ (64, (0, 92)) ∷
+    (65, (0, 93)) ∷ (71, (0, 94)) ∷ (72, (0, 95)) ∷ [])
+    ((98, 569) ∷ [])
     []
 
 -- after ProgramText ^let ^fun Variable Interface Union' ^-> Prod '+
-abbrev pub state_428 : Row
-state_428 = at
-    ((345, 2, 1180591855630442428416) ∷ [])
-    ((121, begin_at 1 345 2 1180591855630442428416) ∷
-    (122, begin_at 2 352 0 1180618877228340869120) ∷
-    (123, begin_at 2 351 0 1180618877228340869120) ∷
-    (124, begin_at 3 365 0 1285534734147566696448) ∷
-    (125, begin_at 3 364 0 1285534734147566696448) ∷
-    (126, begin_at 4 369 0 1285534734181926434816) ∷
-    (131, begin_at 4 368 0 1285534734181926434816) ∷
-    (133, begin_at 5 381 0 1285534734181926434816) ∷
-    (134, begin_at 6 384 0 1285534734181926434816) ∷ [])
-    ((17, (1, 335)) ∷ (19, (1, 336)) ∷ (21, (1, 337)) ∷ (23, (1, 338)) ∷ (55, (0, 346)) ∷
-    (56, (0, 347)) ∷ (57, (0, 348)) ∷ (58, (0, 349)) ∷ (59, (0, 350)) ∷ (60, (0, 351)) ∷
-    (61, (0, 352)) ∷ (63, (0, 353)) ∷ (64, (0, 354)) ∷ (66, (0, 355)) ∷ [])
-    ((121, 547) ∷ (122, 327) ∷ (123, 328) ∷ (124, 329) ∷ (125, 330) ∷ (126, 331) ∷ (131, 332) ∷
-    (133, 333) ∷ (134, 334) ∷ [])
+abbrev pub state_446 : Row
+state_446 = at
+    ((357, 2, 75594767160853402351616) ∷ [])
+    ((125, begin_at 1 357 2 75594767160853402351616) ∷
+    (126, begin_at 2 364 0 75594875247244727678976) ∷
+    (127, begin_at 2 363 0 75594875247244727678976) ∷
+    (128, begin_at 3 379 0 82309490090075009972224) ∷
+    (129, begin_at 3 378 0 82309490090075009972224) ∷
+    (134, begin_at 4 382 0 82309490090281168533504) ∷
+    (136, begin_at 5 395 0 82309490090281168533504) ∷
+    (137, begin_at 6 398 0 82309490090281168533504) ∷ [])
+    ((18, (1, 348)) ∷ (20, (1, 349)) ∷ (22, (1, 350)) ∷ (24, (1, 351)) ∷ (57, (0, 359)) ∷
+    (58, (0, 360)) ∷ (59, (0, 361)) ∷ (60, (0, 362)) ∷ (61, (0, 363)) ∷ (62, (0, 364)) ∷
+    (63, (0, 365)) ∷ (66, (0, 366)) ∷ (67, (0, 367)) ∷ (69, (0, 368)) ∷ (70, (0, 369)) ∷
+    (72, (0, 370)) ∷ [])
+    ((125, 570) ∷ (126, 341) ∷ (127, 342) ∷ (128, 343) ∷ (129, 344) ∷ (134, 345) ∷ (136, 346) ∷
+    (137, 347) ∷ [])
     []
 
 -- after ProgramText ^let ^fun Variable Interface Union' ^-> Prod '-
-abbrev pub state_429 : Row
-state_429 = at
-    ((346, 2, 1180591855630442428416) ∷ [])
-    ((121, begin_at 1 346 2 1180591855630442428416) ∷
-    (122, begin_at 2 352 0 1180618877228340869120) ∷
-    (123, begin_at 2 351 0 1180618877228340869120) ∷
-    (124, begin_at 3 365 0 1285534734147566696448) ∷
-    (125, begin_at 3 364 0 1285534734147566696448) ∷
-    (126, begin_at 4 369 0 1285534734181926434816) ∷
-    (131, begin_at 4 368 0 1285534734181926434816) ∷
-    (133, begin_at 5 381 0 1285534734181926434816) ∷
-    (134, begin_at 6 384 0 1285534734181926434816) ∷ [])
-    ((17, (1, 335)) ∷ (19, (1, 336)) ∷ (21, (1, 337)) ∷ (23, (1, 338)) ∷ (55, (0, 346)) ∷
-    (56, (0, 347)) ∷ (57, (0, 348)) ∷ (58, (0, 349)) ∷ (59, (0, 350)) ∷ (60, (0, 351)) ∷
-    (61, (0, 352)) ∷ (63, (0, 353)) ∷ (64, (0, 354)) ∷ (66, (0, 355)) ∷ [])
-    ((121, 548) ∷ (122, 327) ∷ (123, 328) ∷ (124, 329) ∷ (125, 330) ∷ (126, 331) ∷ (131, 332) ∷
-    (133, 333) ∷ (134, 334) ∷ [])
+abbrev pub state_447 : Row
+state_447 = at
+    ((358, 2, 75594767160853402351616) ∷ [])
+    ((125, begin_at 1 358 2 75594767160853402351616) ∷
+    (126, begin_at 2 364 0 75594875247244727678976) ∷
+    (127, begin_at 2 363 0 75594875247244727678976) ∷
+    (128, begin_at 3 379 0 82309490090075009972224) ∷
+    (129, begin_at 3 378 0 82309490090075009972224) ∷
+    (134, begin_at 4 382 0 82309490090281168533504) ∷
+    (136, begin_at 5 395 0 82309490090281168533504) ∷
+    (137, begin_at 6 398 0 82309490090281168533504) ∷ [])
+    ((18, (1, 348)) ∷ (20, (1, 349)) ∷ (22, (1, 350)) ∷ (24, (1, 351)) ∷ (57, (0, 359)) ∷
+    (58, (0, 360)) ∷ (59, (0, 361)) ∷ (60, (0, 362)) ∷ (61, (0, 363)) ∷ (62, (0, 364)) ∷
+    (63, (0, 365)) ∷ (66, (0, 366)) ∷ (67, (0, 367)) ∷ (69, (0, 368)) ∷ (70, (0, 369)) ∷
+    (72, (0, 370)) ∷ [])
+    ((125, 571) ∷ (126, 341) ∷ (127, 342) ∷ (128, 343) ∷ (129, 344) ∷ (134, 345) ∷ (136, 346) ∷
+    (137, 347) ∷ [])
     []
 
 -- after ProgramText ^let ^fun Variable Interface Union' ^-> Prod '\
-abbrev pub state_430 : Row
-state_430 = at
-    ((347, 2, 1180591855630442428416) ∷ [])
-    ((94, begin_at 1 347 2 1180591855630442428416) ∷ [])
-    ((39, (0, 67)) ∷ (40, (0, 68)) ∷ (41, (0, 69)) ∷ (42, (0, 70)) ∷ (43, (0, 71)) ∷ (44, (0, 72)) ∷
-    (45, (0, 73)) ∷ (46, (0, 74)) ∷ (47, (0, 75)) ∷ (48, (0, 76)) ∷ (49, (0, 77)) ∷ (50, (0, 78)) ∷
-    (51, (0, 79)) ∷ (52, (0, 80)) ∷ (53, (0, 81)) ∷ (54, (0, 82)) ∷ (55, (0, 83)) ∷ (56, (0, 84)) ∷
-    (57, (0, 85)) ∷ (58, (0, 86)) ∷ (59, (0, 87)) ∷ (65, (0, 88)) ∷ (66, (0, 89)) ∷ [])
-    ((94, 549) ∷ [])
+abbrev pub state_448 : Row
+state_448 = at
+    ((359, 2, 75594767160853402351616) ∷ [])
+    ((98, begin_at 1 359 2 75594767160853402351616) ∷ [])
+    ((41, (0, 69)) ∷ (42, (0, 70)) ∷ (43, (0, 71)) ∷ (44, (0, 72)) ∷ (45, (0, 73)) ∷ (46, (0, 74)) ∷
+    (47, (0, 75)) ∷ (48, (0, 76)) ∷ (49, (0, 77)) ∷ (50, (0, 78)) ∷ (51, (0, 79)) ∷ (52, (0, 80)) ∷
+    (53, (0, 81)) ∷ (54, (0, 82)) ∷ (55, (0, 83)) ∷ (56, (0, 84)) ∷ (57, (0, 85)) ∷ (58, (0, 86)) ∷
+    (59, (0, 87)) ∷ (60, (0, 88)) ∷ (61, (0, 89)) ∷ (62, (0, 90)) ∷ (63, (0, 91)) ∷ (64, (0, 92)) ∷
+    (65, (0, 93)) ∷ (71, (0, 94)) ∷ (72, (0, 95)) ∷ [])
+    ((98, 572) ∷ [])
     []
 
 -- after ProgramText ^let ^fun Variable Interface Union' ^-> Prods '*
-abbrev pub state_431 : Row
-state_431 = at
-    ((356, 2, 1180618877228340869120) ∷ [])
-    ((123, begin_at 1 356 2 1180618877228340869120) ∷
-    (124, begin_at 2 365 0 1285534734147566696448) ∷
-    (125, begin_at 2 364 0 1285534734147566696448) ∷
-    (126, begin_at 3 369 0 1285534734181926434816) ∷
-    (131, begin_at 3 368 0 1285534734181926434816) ∷
-    (133, begin_at 4 381 0 1285534734181926434816) ∷
-    (134, begin_at 5 384 0 1285534734181926434816) ∷ [])
-    ((17, (1, 335)) ∷ (19, (1, 336)) ∷ (21, (1, 337)) ∷ (23, (1, 338)) ∷ (55, (0, 346)) ∷
-    (56, (0, 347)) ∷ (57, (0, 348)) ∷ (58, (0, 349)) ∷ (59, (0, 350)) ∷ (60, (0, 351)) ∷
-    (61, (0, 352)) ∷ (63, (0, 353)) ∷ (64, (0, 354)) ∷ (66, (0, 355)) ∷ [])
-    ((123, 550) ∷ (124, 329) ∷ (125, 330) ∷ (126, 331) ∷ (131, 332) ∷ (133, 333) ∷ (134, 334) ∷ [])
+abbrev pub state_449 : Row
+state_449 = at
+    ((368, 2, 75594875247244727678976) ∷ [])
+    ((127, begin_at 1 368 2 75594875247244727678976) ∷
+    (128, begin_at 2 379 0 82309490090075009972224) ∷
+    (129, begin_at 2 378 0 82309490090075009972224) ∷
+    (134, begin_at 3 382 0 82309490090281168533504) ∷
+    (136, begin_at 4 395 0 82309490090281168533504) ∷
+    (137, begin_at 5 398 0 82309490090281168533504) ∷ [])
+    ((18, (1, 348)) ∷ (20, (1, 349)) ∷ (22, (1, 350)) ∷ (24, (1, 351)) ∷ (57, (0, 359)) ∷
+    (58, (0, 360)) ∷ (59, (0, 361)) ∷ (60, (0, 362)) ∷ (61, (0, 363)) ∷ (62, (0, 364)) ∷
+    (63, (0, 365)) ∷ (66, (0, 366)) ∷ (67, (0, 367)) ∷ (69, (0, 368)) ∷ (70, (0, 369)) ∷
+    (72, (0, 370)) ∷ [])
+    ((127, 573) ∷ (128, 343) ∷ (129, 344) ∷ (134, 345) ∷ (136, 346) ∷ (137, 347) ∷ [])
     []
 
 -- after ProgramText ^let ^fun Variable Interface Union' ^-> Prods 'div
-abbrev pub state_432 : Row
-state_432 = at
-    ((357, 2, 1180618877228340869120) ∷ [])
-    ((123, begin_at 1 357 2 1180618877228340869120) ∷
-    (124, begin_at 2 365 0 1285534734147566696448) ∷
-    (125, begin_at 2 364 0 1285534734147566696448) ∷
-    (126, begin_at 3 369 0 1285534734181926434816) ∷
-    (131, begin_at 3 368 0 1285534734181926434816) ∷
-    (133, begin_at 4 381 0 1285534734181926434816) ∷
-    (134, begin_at 5 384 0 1285534734181926434816) ∷ [])
-    ((17, (1, 335)) ∷ (19, (1, 336)) ∷ (21, (1, 337)) ∷ (23, (1, 338)) ∷ (55, (0, 346)) ∷
-    (56, (0, 347)) ∷ (57, (0, 348)) ∷ (58, (0, 349)) ∷ (59, (0, 350)) ∷ (60, (0, 351)) ∷
-    (61, (0, 352)) ∷ (63, (0, 353)) ∷ (64, (0, 354)) ∷ (66, (0, 355)) ∷ [])
-    ((123, 551) ∷ (124, 329) ∷ (125, 330) ∷ (126, 331) ∷ (131, 332) ∷ (133, 333) ∷ (134, 334) ∷ [])
+abbrev pub state_450 : Row
+state_450 = at
+    ((369, 2, 75594875247244727678976) ∷ [])
+    ((127, begin_at 1 369 2 75594875247244727678976) ∷
+    (128, begin_at 2 379 0 82309490090075009972224) ∷
+    (129, begin_at 2 378 0 82309490090075009972224) ∷
+    (134, begin_at 3 382 0 82309490090281168533504) ∷
+    (136, begin_at 4 395 0 82309490090281168533504) ∷
+    (137, begin_at 5 398 0 82309490090281168533504) ∷ [])
+    ((18, (1, 348)) ∷ (20, (1, 349)) ∷ (22, (1, 350)) ∷ (24, (1, 351)) ∷ (57, (0, 359)) ∷
+    (58, (0, 360)) ∷ (59, (0, 361)) ∷ (60, (0, 362)) ∷ (61, (0, 363)) ∷ (62, (0, 364)) ∷
+    (63, (0, 365)) ∷ (66, (0, 366)) ∷ (67, (0, 367)) ∷ (69, (0, 368)) ∷ (70, (0, 369)) ∷
+    (72, (0, 370)) ∷ [])
+    ((127, 574) ∷ (128, 343) ∷ (129, 344) ∷ (134, 345) ∷ (136, 346) ∷ (137, 347) ∷ [])
     []
 
 -- after ProgramText ^let ^fun Variable Interface Union' ^-> Prods 'mod
-abbrev pub state_433 : Row
-state_433 = at
-    ((358, 2, 1180618877228340869120) ∷ [])
-    ((123, begin_at 1 358 2 1180618877228340869120) ∷
-    (124, begin_at 2 365 0 1285534734147566696448) ∷
-    (125, begin_at 2 364 0 1285534734147566696448) ∷
-    (126, begin_at 3 369 0 1285534734181926434816) ∷
-    (131, begin_at 3 368 0 1285534734181926434816) ∷
-    (133, begin_at 4 381 0 1285534734181926434816) ∷
-    (134, begin_at 5 384 0 1285534734181926434816) ∷ [])
-    ((17, (1, 335)) ∷ (19, (1, 336)) ∷ (21, (1, 337)) ∷ (23, (1, 338)) ∷ (55, (0, 346)) ∷
-    (56, (0, 347)) ∷ (57, (0, 348)) ∷ (58, (0, 349)) ∷ (59, (0, 350)) ∷ (60, (0, 351)) ∷
-    (61, (0, 352)) ∷ (63, (0, 353)) ∷ (64, (0, 354)) ∷ (66, (0, 355)) ∷ [])
-    ((123, 552) ∷ (124, 329) ∷ (125, 330) ∷ (126, 331) ∷ (131, 332) ∷ (133, 333) ∷ (134, 334) ∷ [])
+abbrev pub state_451 : Row
+state_451 = at
+    ((370, 2, 75594875247244727678976) ∷ [])
+    ((127, begin_at 1 370 2 75594875247244727678976) ∷
+    (128, begin_at 2 379 0 82309490090075009972224) ∷
+    (129, begin_at 2 378 0 82309490090075009972224) ∷
+    (134, begin_at 3 382 0 82309490090281168533504) ∷
+    (136, begin_at 4 395 0 82309490090281168533504) ∷
+    (137, begin_at 5 398 0 82309490090281168533504) ∷ [])
+    ((18, (1, 348)) ∷ (20, (1, 349)) ∷ (22, (1, 350)) ∷ (24, (1, 351)) ∷ (57, (0, 359)) ∷
+    (58, (0, 360)) ∷ (59, (0, 361)) ∷ (60, (0, 362)) ∷ (61, (0, 363)) ∷ (62, (0, 364)) ∷
+    (63, (0, 365)) ∷ (66, (0, 366)) ∷ (67, (0, 367)) ∷ (69, (0, 368)) ∷ (70, (0, 369)) ∷
+    (72, (0, 370)) ∷ [])
+    ((127, 575) ∷ (128, 343) ∷ (129, 344) ∷ (134, 345) ∷ (136, 346) ∷ (137, 347) ∷ [])
     []
 
 -- after ProgramText ^let ^fun Variable Interface Union' ^-> App '*
-abbrev pub state_434 : Row
-state_434 = at
-    ((353, 2, 1180618877228340869120) ∷ [])
-    ((123, begin_at 1 353 2 1180618877228340869120) ∷
-    (124, begin_at 2 365 0 1285534734147566696448) ∷
-    (125, begin_at 2 364 0 1285534734147566696448) ∷
-    (126, begin_at 3 369 0 1285534734181926434816) ∷
-    (131, begin_at 3 368 0 1285534734181926434816) ∷
-    (133, begin_at 4 381 0 1285534734181926434816) ∷
-    (134, begin_at 5 384 0 1285534734181926434816) ∷ [])
-    ((17, (1, 335)) ∷ (19, (1, 336)) ∷ (21, (1, 337)) ∷ (23, (1, 338)) ∷ (55, (0, 346)) ∷
-    (56, (0, 347)) ∷ (57, (0, 348)) ∷ (58, (0, 349)) ∷ (59, (0, 350)) ∷ (60, (0, 351)) ∷
-    (61, (0, 352)) ∷ (63, (0, 353)) ∷ (64, (0, 354)) ∷ (66, (0, 355)) ∷ [])
-    ((123, 553) ∷ (124, 329) ∷ (125, 330) ∷ (126, 331) ∷ (131, 332) ∷ (133, 333) ∷ (134, 334) ∷ [])
+abbrev pub state_452 : Row
+state_452 = at
+    ((365, 2, 75594875247244727678976) ∷ [])
+    ((127, begin_at 1 365 2 75594875247244727678976) ∷
+    (128, begin_at 2 379 0 82309490090075009972224) ∷
+    (129, begin_at 2 378 0 82309490090075009972224) ∷
+    (134, begin_at 3 382 0 82309490090281168533504) ∷
+    (136, begin_at 4 395 0 82309490090281168533504) ∷
+    (137, begin_at 5 398 0 82309490090281168533504) ∷ [])
+    ((18, (1, 348)) ∷ (20, (1, 349)) ∷ (22, (1, 350)) ∷ (24, (1, 351)) ∷ (57, (0, 359)) ∷
+    (58, (0, 360)) ∷ (59, (0, 361)) ∷ (60, (0, 362)) ∷ (61, (0, 363)) ∷ (62, (0, 364)) ∷
+    (63, (0, 365)) ∷ (66, (0, 366)) ∷ (67, (0, 367)) ∷ (69, (0, 368)) ∷ (70, (0, 369)) ∷
+    (72, (0, 370)) ∷ [])
+    ((127, 576) ∷ (128, 343) ∷ (129, 344) ∷ (134, 345) ∷ (136, 346) ∷ (137, 347) ∷ [])
     []
 
 -- after ProgramText ^let ^fun Variable Interface Union' ^-> App 'div
-abbrev pub state_435 : Row
-state_435 = at
-    ((354, 2, 1180618877228340869120) ∷ [])
-    ((123, begin_at 1 354 2 1180618877228340869120) ∷
-    (124, begin_at 2 365 0 1285534734147566696448) ∷
-    (125, begin_at 2 364 0 1285534734147566696448) ∷
-    (126, begin_at 3 369 0 1285534734181926434816) ∷
-    (131, begin_at 3 368 0 1285534734181926434816) ∷
-    (133, begin_at 4 381 0 1285534734181926434816) ∷
-    (134, begin_at 5 384 0 1285534734181926434816) ∷ [])
-    ((17, (1, 335)) ∷ (19, (1, 336)) ∷ (21, (1, 337)) ∷ (23, (1, 338)) ∷ (55, (0, 346)) ∷
-    (56, (0, 347)) ∷ (57, (0, 348)) ∷ (58, (0, 349)) ∷ (59, (0, 350)) ∷ (60, (0, 351)) ∷
-    (61, (0, 352)) ∷ (63, (0, 353)) ∷ (64, (0, 354)) ∷ (66, (0, 355)) ∷ [])
-    ((123, 554) ∷ (124, 329) ∷ (125, 330) ∷ (126, 331) ∷ (131, 332) ∷ (133, 333) ∷ (134, 334) ∷ [])
+abbrev pub state_453 : Row
+state_453 = at
+    ((366, 2, 75594875247244727678976) ∷ [])
+    ((127, begin_at 1 366 2 75594875247244727678976) ∷
+    (128, begin_at 2 379 0 82309490090075009972224) ∷
+    (129, begin_at 2 378 0 82309490090075009972224) ∷
+    (134, begin_at 3 382 0 82309490090281168533504) ∷
+    (136, begin_at 4 395 0 82309490090281168533504) ∷
+    (137, begin_at 5 398 0 82309490090281168533504) ∷ [])
+    ((18, (1, 348)) ∷ (20, (1, 349)) ∷ (22, (1, 350)) ∷ (24, (1, 351)) ∷ (57, (0, 359)) ∷
+    (58, (0, 360)) ∷ (59, (0, 361)) ∷ (60, (0, 362)) ∷ (61, (0, 363)) ∷ (62, (0, 364)) ∷
+    (63, (0, 365)) ∷ (66, (0, 366)) ∷ (67, (0, 367)) ∷ (69, (0, 368)) ∷ (70, (0, 369)) ∷
+    (72, (0, 370)) ∷ [])
+    ((127, 577) ∷ (128, 343) ∷ (129, 344) ∷ (134, 345) ∷ (136, 346) ∷ (137, 347) ∷ [])
     []
 
 -- after ProgramText ^let ^fun Variable Interface Union' ^-> App 'mod
-abbrev pub state_436 : Row
-state_436 = at
-    ((355, 2, 1180618877228340869120) ∷ [])
-    ((123, begin_at 1 355 2 1180618877228340869120) ∷
-    (124, begin_at 2 365 0 1285534734147566696448) ∷
-    (125, begin_at 2 364 0 1285534734147566696448) ∷
-    (126, begin_at 3 369 0 1285534734181926434816) ∷
-    (131, begin_at 3 368 0 1285534734181926434816) ∷
-    (133, begin_at 4 381 0 1285534734181926434816) ∷
-    (134, begin_at 5 384 0 1285534734181926434816) ∷ [])
-    ((17, (1, 335)) ∷ (19, (1, 336)) ∷ (21, (1, 337)) ∷ (23, (1, 338)) ∷ (55, (0, 346)) ∷
-    (56, (0, 347)) ∷ (57, (0, 348)) ∷ (58, (0, 349)) ∷ (59, (0, 350)) ∷ (60, (0, 351)) ∷
-    (61, (0, 352)) ∷ (63, (0, 353)) ∷ (64, (0, 354)) ∷ (66, (0, 355)) ∷ [])
-    ((123, 555) ∷ (124, 329) ∷ (125, 330) ∷ (126, 331) ∷ (131, 332) ∷ (133, 333) ∷ (134, 334) ∷ [])
+abbrev pub state_454 : Row
+state_454 = at
+    ((367, 2, 75594875247244727678976) ∷ [])
+    ((127, begin_at 1 367 2 75594875247244727678976) ∷
+    (128, begin_at 2 379 0 82309490090075009972224) ∷
+    (129, begin_at 2 378 0 82309490090075009972224) ∷
+    (134, begin_at 3 382 0 82309490090281168533504) ∷
+    (136, begin_at 4 395 0 82309490090281168533504) ∷
+    (137, begin_at 5 398 0 82309490090281168533504) ∷ [])
+    ((18, (1, 348)) ∷ (20, (1, 349)) ∷ (22, (1, 350)) ∷ (24, (1, 351)) ∷ (57, (0, 359)) ∷
+    (58, (0, 360)) ∷ (59, (0, 361)) ∷ (60, (0, 362)) ∷ (61, (0, 363)) ∷ (62, (0, 364)) ∷
+    (63, (0, 365)) ∷ (66, (0, 366)) ∷ (67, (0, 367)) ∷ (69, (0, 368)) ∷ (70, (0, 369)) ∷
+    (72, (0, 370)) ∷ [])
+    ((127, 578) ∷ (128, 343) ∷ (129, 344) ∷ (134, 345) ∷ (136, 346) ∷ (137, 347) ∷ [])
     []
 
 -- after ProgramText ^let ^fun Variable Interface Union' ^-> Posts NPost
-abbrev pub state_437 : Row
-state_437 = at
-    ((367, 2, 1285534734147566696448) ∷ [])
+abbrev pub state_455 : Row
+state_455 = at
+    ((381, 2, 82309490090075009972224) ∷ [])
     []
     []
     []
-    ((367, 1285534734147566696448) ∷ [])
-
--- after ProgramText ^let ^fun Variable Interface Union' ^-> Posts NSelects
-abbrev pub state_438 : Row
-state_438 = at
-    ((373, 1, 1285534734147566696448) ∷ (375, 1, 1285534734181926434816) ∷ [])
-    []
-    ((35, (0, 556)) ∷ [])
-    []
-    ((373, 1285534734147566696448) ∷ [])
+    ((381, 82309490090075009972224) ∷ [])
 
 -- after ProgramText ^let ^fun Variable Interface Union' ^-> Posts NBase
-abbrev pub state_439 : Row
-state_439 = at
-    ((372, 1, 1285534734147566696448) ∷ (374, 1, 1285534734181926434816) ∷ [])
-    []
-    ((35, (0, 557)) ∷ [])
-    []
-    ((372, 1285534734147566696448) ∷ [])
+abbrev pub state_456 : Row
+state_456 = at
+    ((384, 1, 82309490090075009972224) ∷ (385, 1, 82309490090075009972224) ∷ [])
+    ((132, begin_at 1 385 1 82309490090075009972224) ∷ [])
+    ((17, (1, 461)) ∷ (36, (0, 462)) ∷ (37, (1, 463)) ∷ [])
+    ((132, 579) ∷ [])
+    ((384, 82309490090075009972224) ∷ [])
 
 -- after ProgramText ^let ^fun Variable Interface Union' ^-> Posts Core
-abbrev pub state_440 : Row
-state_440 = at
-    ((383, 1, 1285534734181926434816) ∷ [])
+abbrev pub state_457 : Row
+state_457 = at
+    ((397, 1, 82309490090281168533504) ∷ [])
     []
     []
     []
-    ((383, 1285534734181926434816) ∷ [])
+    ((397, 82309490090281168533504) ∷ [])
 
 -- after ProgramText ^let ^fun Variable Interface Union' ^-> Posts Char1
-abbrev pub state_441 : Row
-state_441 = at
-    ((382, 1, 1285534734181926434816) ∷ [])
+abbrev pub state_458 : Row
+state_458 = at
+    ((396, 1, 82309490090281168533504) ∷ [])
     []
     []
     []
-    ((382, 1285534734181926434816) ∷ [])
+    ((396, 82309490090281168533504) ∷ [])
 
 -- after ProgramText ^let ^fun Variable Interface Union' ^-> Post NPost
-abbrev pub state_442 : Row
-state_442 = at
-    ((366, 2, 1285534734147566696448) ∷ [])
+abbrev pub state_459 : Row
+state_459 = at
+    ((380, 2, 82309490090075009972224) ∷ [])
     []
     []
     []
-    ((366, 1285534734147566696448) ∷ [])
+    ((380, 82309490090075009972224) ∷ [])
 
--- after ProgramText ^let ^fun Variable Interface Union' ^-> Selects '.
-abbrev pub state_443 : Row
-state_443 = at
-    ((371, 2, 1328165573027847731200) ∷ [])
-    ((94, begin_at 1 371 2 1328165573027847731200) ∷ [])
-    ((39, (0, 67)) ∷ (40, (0, 68)) ∷ (41, (0, 69)) ∷ (42, (0, 70)) ∷ (43, (0, 71)) ∷ (44, (0, 72)) ∷
-    (45, (0, 73)) ∷ (46, (0, 74)) ∷ (47, (0, 75)) ∷ (48, (0, 76)) ∷ (49, (0, 77)) ∷ (50, (0, 78)) ∷
-    (51, (0, 79)) ∷ (52, (0, 80)) ∷ (53, (0, 81)) ∷ (54, (0, 82)) ∷ (55, (0, 83)) ∷ (56, (0, 84)) ∷
-    (57, (0, 85)) ∷ (58, (0, 86)) ∷ (59, (0, 87)) ∷ (65, (0, 88)) ∷ (66, (0, 89)) ∷ [])
-    ((94, 558) ∷ [])
+-- after ProgramText ^let ^fun Variable Interface Union' ^-> Base Steps
+abbrev pub state_460 : Row
+state_460 = at
+    ((383, 2, 85002596690339219503104) ∷ [])
+    []
+    []
+    []
+    ((383, 85002596690339219503104) ∷ [])
+
+-- after ProgramText ^let ^fun Variable Interface Union' ^-> Base ^/@
+abbrev pub state_461 : Row
+state_461 = at
+    ((392, 1, 85002596690339219503104) ∷ (393, 1, 85002596690339219503104) ∷ [])
+    ((98, begin_at 1 392 1 85002596690545378064384) ∷ [])
+    ((41, (0, 69)) ∷ (42, (0, 70)) ∷ (43, (0, 71)) ∷ (44, (0, 72)) ∷ (45, (0, 73)) ∷ (46, (0, 74)) ∷
+    (47, (0, 75)) ∷ (48, (0, 76)) ∷ (49, (0, 77)) ∷ (50, (0, 78)) ∷ (51, (0, 79)) ∷ (52, (0, 80)) ∷
+    (53, (0, 81)) ∷ (54, (0, 82)) ∷ (55, (0, 83)) ∷ (56, (0, 84)) ∷ (57, (0, 85)) ∷ (58, (0, 86)) ∷
+    (59, (0, 87)) ∷ (60, (0, 88)) ∷ (61, (0, 89)) ∷ (62, (0, 90)) ∷ (63, (0, 91)) ∷ (64, (0, 92)) ∷
+    (65, (0, 93)) ∷ (71, (0, 94)) ∷ (72, (0, 95)) ∷ [])
+    ((98, 580) ∷ [])
     []
 
 -- after ProgramText ^let ^fun Variable Interface Union' ^-> Base '.
-abbrev pub state_444 : Row
-state_444 = at
-    ((370, 2, 1328165573027847731200) ∷ [])
-    ((94, begin_at 1 370 2 1328165573027847731200) ∷ [])
-    ((39, (0, 67)) ∷ (40, (0, 68)) ∷ (41, (0, 69)) ∷ (42, (0, 70)) ∷ (43, (0, 71)) ∷ (44, (0, 72)) ∷
-    (45, (0, 73)) ∷ (46, (0, 74)) ∷ (47, (0, 75)) ∷ (48, (0, 76)) ∷ (49, (0, 77)) ∷ (50, (0, 78)) ∷
-    (51, (0, 79)) ∷ (52, (0, 80)) ∷ (53, (0, 81)) ∷ (54, (0, 82)) ∷ (55, (0, 83)) ∷ (56, (0, 84)) ∷
-    (57, (0, 85)) ∷ (58, (0, 86)) ∷ (59, (0, 87)) ∷ (65, (0, 88)) ∷ (66, (0, 89)) ∷ [])
-    ((94, 559) ∷ [])
+abbrev pub state_462 : Row
+state_462 = at
+    ((388, 1, 85002596690339219503104) ∷ (389, 1, 85002596690339219503104) ∷ [])
+    ((98, begin_at 1 388 1 85002596690545378064384) ∷ [])
+    ((41, (0, 69)) ∷ (42, (0, 70)) ∷ (43, (0, 71)) ∷ (44, (0, 72)) ∷ (45, (0, 73)) ∷ (46, (0, 74)) ∷
+    (47, (0, 75)) ∷ (48, (0, 76)) ∷ (49, (0, 77)) ∷ (50, (0, 78)) ∷ (51, (0, 79)) ∷ (52, (0, 80)) ∷
+    (53, (0, 81)) ∷ (54, (0, 82)) ∷ (55, (0, 83)) ∷ (56, (0, 84)) ∷ (57, (0, 85)) ∷ (58, (0, 86)) ∷
+    (59, (0, 87)) ∷ (60, (0, 88)) ∷ (61, (0, 89)) ∷ (62, (0, 90)) ∷ (63, (0, 91)) ∷ (64, (0, 92)) ∷
+    (65, (0, 93)) ∷ (71, (0, 94)) ∷ (72, (0, 95)) ∷ [])
+    ((98, 581) ∷ [])
+    []
+
+-- after ProgramText ^let ^fun Variable Interface Union' ^-> Base ^/
+abbrev pub state_463 : Row
+state_463 = at
+    ((390, 1, 85002596690339219503104) ∷ (391, 1, 85002596690339219503104) ∷ [])
+    ((98, begin_at 1 390 1 85002596690545378064384) ∷ [])
+    ((41, (0, 69)) ∷ (42, (0, 70)) ∷ (43, (0, 71)) ∷ (44, (0, 72)) ∷ (45, (0, 73)) ∷ (46, (0, 74)) ∷
+    (47, (0, 75)) ∷ (48, (0, 76)) ∷ (49, (0, 77)) ∷ (50, (0, 78)) ∷ (51, (0, 79)) ∷ (52, (0, 80)) ∷
+    (53, (0, 81)) ∷ (54, (0, 82)) ∷ (55, (0, 83)) ∷ (56, (0, 84)) ∷ (57, (0, 85)) ∷ (58, (0, 86)) ∷
+    (59, (0, 87)) ∷ (60, (0, 88)) ∷ (61, (0, 89)) ∷ (62, (0, 90)) ∷ (63, (0, 91)) ∷ (64, (0, 92)) ∷
+    (65, (0, 93)) ∷ (71, (0, 94)) ∷ (72, (0, 95)) ∷ [])
+    ((98, 582) ∷ [])
     []
 
 -- after ProgramText ^let ^fun Variable Interface Union' ^-> ^( Expr
-abbrev pub state_445 : Row
-state_445 = at
-    ((391, 2, 1328165573027847731200) ∷ (397, 1, 8590196736) ∷ [])
+abbrev pub state_464 : Row
+state_464 = at
+    ((405, 2, 85002596690545378064384) ∷ (415, 1, 17180393472) ∷ [])
     []
-    ((18, (0, 560)) ∷ (33, (0, 561)) ∷ [])
+    ((19, (0, 583)) ∷ (34, (0, 584)) ∷ [])
     []
     []
 
 -- after ProgramText ^let ^fun Variable Interface Union' ^-> ^( Or
-abbrev pub state_446 : Row
-state_446 = at
-    ((319, 1, 233122239348736) ∷ [])
+abbrev pub state_465 : Row
+state_465 = at
+    ((331, 1, 36894420584827977728) ∷ [])
     []
     []
     []
-    ((319, 233122239348736) ∷ [])
+    ((331, 36894420584827977728) ∷ [])
 
 -- after ProgramText ^let ^fun Variable Interface Union' ^-> ^( Exprs
-abbrev pub state_447 : Row
-state_447 = at
-    ((392, 2, 1328165573027847731200) ∷ (398, 1, 8590196736) ∷ [])
+abbrev pub state_466 : Row
+state_466 = at
+    ((406, 2, 85002596690545378064384) ∷ (416, 1, 17180393472) ∷ [])
     []
-    ((18, (0, 562)) ∷ (33, (0, 563)) ∷ [])
+    ((19, (0, 585)) ∷ (34, (0, 586)) ∷ [])
     []
     []
 
 -- after ProgramText ^let ^fun Variable Interface Union' ^-> ^( ^let
-abbrev pub state_448 : Row
-state_448 = at
-    ((317, 1, 233122239348736) ∷ [])
-    ((54, begin_at 1 317 1 33554432) ∷ (55, begin_at 2 141 0 2181038080) ∷
-    (56, begin_at 2 140 0 2181038080) ∷ (57, begin_at 3 145 0 7549747200) ∷
-    (58, begin_at 3 144 0 7549747200) ∷ (59, begin_at 4 151 0 7549747200) ∷
-    (61, begin_at 4 150 0 7549747200) ∷ (95, begin_at 5 281 0 7549747200) ∷ [])
-    ((0, (0, 247)) ∷ (17, (1, 248)) ∷ (19, (1, 249)) ∷ (21, (1, 250)) ∷ (23, (1, 251)) ∷
-    (38, (0, 253)) ∷ (60, (0, 254)) ∷ (61, (0, 255)) ∷ (63, (0, 256)) ∷ (64, (0, 257)) ∷
-    (65, (0, 258)) ∷ (66, (0, 259)) ∷ [])
-    ((54, 564) ∷ (55, 234) ∷ (56, 235) ∷ (57, 236) ∷ (58, 237) ∷ (59, 238) ∷ (61, 239) ∷ (95, 240) ∷
+abbrev pub state_467 : Row
+state_467 = at
+    ((329, 1, 36894420584827977728) ∷ [])
+    ((56, begin_at 1 329 1 67108864) ∷ (57, begin_at 2 145 0 4362076160) ∷
+    (58, begin_at 2 144 0 4362076160) ∷ (59, begin_at 3 149 0 15099494400) ∷
+    (60, begin_at 3 148 0 15099494400) ∷ (61, begin_at 4 155 0 15099494400) ∷
+    (63, begin_at 4 154 0 15099494400) ∷ (99, begin_at 5 293 0 15099494400) ∷ [])
+    ((0, (0, 259)) ∷ (18, (1, 260)) ∷ (20, (1, 261)) ∷ (22, (1, 262)) ∷ (24, (1, 263)) ∷
+    (40, (0, 265)) ∷ (66, (0, 266)) ∷ (67, (0, 267)) ∷ (69, (0, 268)) ∷ (70, (0, 269)) ∷
+    (71, (0, 270)) ∷ (72, (0, 271)) ∷ [])
+    ((56, 587) ∷ (57, 246) ∷ (58, 247) ∷ (59, 248) ∷ (60, 249) ∷ (61, 250) ∷ (63, 251) ∷ (99, 252) ∷
     [])
     []
 
 -- after ProgramText ^let ^fun Variable Interface Union' ^-> ^( ^if
-abbrev pub state_449 : Row
-state_449 = at
-    ((318, 1, 233122239348736) ∷ [])
-    ((109, begin_at 1 318 1 70368744177664) ∷ (111, begin_at 2 319 0 70368744177664) ∷
-    (112, begin_at 3 324 0 70368744210432) ∷ (113, begin_at 3 323 0 70368744210432) ∷
-    (114, begin_at 4 328 0 70368744226816) ∷ (115, begin_at 4 327 0 70368744226816) ∷
-    (116, begin_at 5 332 0 70368744226816) ∷ (117, begin_at 5 331 0 70368802961408) ∷
-    (118, begin_at 6 340 0 70506241914880) ∷ (119, begin_at 6 339 0 70506241914880) ∷
-    (120, begin_at 7 344 0 70508120963072) ∷ (121, begin_at 7 343 0 70508120963072) ∷
-    (122, begin_at 8 352 0 27092106019403776) ∷ (123, begin_at 8 351 0 27092106019403776) ∷
-    (124, begin_at 9 365 0 104942949025245231104) ∷ (125, begin_at 9 364 0 104942949025245231104) ∷
-    (126, begin_at 10 369 0 104942949059604969472) ∷
-    (131, begin_at 10 368 0 104942949059604969472) ∷
-    (133, begin_at 11 381 0 104942949059604969472) ∷
-    (134, begin_at 12 384 0 104942949059604969472) ∷ [])
-    ((17, (1, 335)) ∷ (19, (1, 336)) ∷ (21, (1, 337)) ∷ (23, (1, 338)) ∷ (40, (1, 448)) ∷
-    (41, (1, 340)) ∷ (43, (1, 341)) ∷ (45, (1, 449)) ∷ (48, (1, 343)) ∷ (49, (1, 344)) ∷
-    (50, (1, 345)) ∷ (55, (0, 346)) ∷ (56, (0, 347)) ∷ (57, (0, 348)) ∷ (58, (0, 349)) ∷
-    (59, (0, 350)) ∷ (60, (0, 351)) ∷ (61, (0, 352)) ∷ (63, (0, 353)) ∷ (64, (0, 354)) ∷
-    (66, (0, 355)) ∷ [])
-    ((109, 565) ∷ (111, 446) ∷ (112, 317) ∷ (113, 318) ∷ (114, 319) ∷ (115, 320) ∷ (116, 321) ∷
-    (117, 322) ∷ (118, 323) ∷ (119, 324) ∷ (120, 325) ∷ (121, 326) ∷ (122, 327) ∷ (123, 328) ∷
-    (124, 329) ∷ (125, 330) ∷ (126, 331) ∷ (131, 332) ∷ (133, 333) ∷ (134, 334) ∷ [])
+abbrev pub state_468 : Row
+state_468 = at
+    ((330, 1, 36894420584827977728) ∷ [])
+    ((113, begin_at 1 330 1 281474976710656) ∷ (115, begin_at 2 331 0 281474976710656) ∷
+    (116, begin_at 3 336 0 281474976743424) ∷ (117, begin_at 3 335 0 281474976743424) ∷
+    (118, begin_at 4 340 0 281474976759808) ∷ (119, begin_at 4 339 0 281474976759808) ∷
+    (120, begin_at 5 344 0 281474976759808) ∷ (121, begin_at 5 343 0 281475094214656) ∷
+    (122, begin_at 6 352 0 282024850028544) ∷ (123, begin_at 6 351 0 282024850028544) ∷
+    (124, begin_at 7 356 0 282028608124928) ∷ (125, begin_at 7 355 0 282028608124928) ∷
+    (126, begin_at 8 364 0 108368419933452288) ∷ (127, begin_at 8 363 0 108368419933452288) ∷
+    (128, begin_at 9 379 0 6714723211250215745536) ∷
+    (129, begin_at 9 378 0 6714723211250215745536) ∷
+    (134, begin_at 10 382 0 6714723211456374306816) ∷
+    (136, begin_at 11 395 0 6714723211456374306816) ∷
+    (137, begin_at 12 398 0 6714723211456374306816) ∷ [])
+    ((18, (1, 348)) ∷ (20, (1, 349)) ∷ (22, (1, 350)) ∷ (24, (1, 351)) ∷ (42, (1, 467)) ∷
+    (43, (1, 353)) ∷ (45, (1, 354)) ∷ (47, (1, 468)) ∷ (50, (1, 356)) ∷ (51, (1, 357)) ∷
+    (52, (1, 358)) ∷ (57, (0, 359)) ∷ (58, (0, 360)) ∷ (59, (0, 361)) ∷ (60, (0, 362)) ∷
+    (61, (0, 363)) ∷ (62, (0, 364)) ∷ (63, (0, 365)) ∷ (66, (0, 366)) ∷ (67, (0, 367)) ∷
+    (69, (0, 368)) ∷ (70, (0, 369)) ∷ (72, (0, 370)) ∷ [])
+    ((113, 588) ∷ (115, 465) ∷ (116, 331) ∷ (117, 332) ∷ (118, 333) ∷ (119, 334) ∷ (120, 335) ∷
+    (121, 336) ∷ (122, 337) ∷ (123, 338) ∷ (124, 339) ∷ (125, 340) ∷ (126, 341) ∷ (127, 342) ∷
+    (128, 343) ∷ (129, 344) ∷ (134, 345) ∷ (136, 346) ∷ (137, 347) ∷ [])
+    []
+
+-- after ProgramText ^let ^fun Variable Interface Union' ^-> ^( 'select
+abbrev pub state_469 : Row
+state_469 = at
+    ((411, 2, 85002596690545378064384) ∷ [])
+    ((113, begin_at 1 411 2 36893488147419103232) ∷ (115, begin_at 2 331 0 36893488147419103232) ∷
+    (116, begin_at 3 336 0 36893488147419136000) ∷ (117, begin_at 3 335 0 36893488147419136000) ∷
+    (118, begin_at 4 340 0 36893488147419152384) ∷ (119, begin_at 4 339 0 36893488147419152384) ∷
+    (120, begin_at 5 344 0 36893488147419152384) ∷ (121, begin_at 5 343 0 36893488147536607232) ∷
+    (122, begin_at 6 352 0 36893488697292421120) ∷ (123, begin_at 6 351 0 36893488697292421120) ∷
+    (124, begin_at 7 356 0 36893488701050517504) ∷ (125, begin_at 7 355 0 36893488701050517504) ∷
+    (126, begin_at 8 364 0 37001575092375844864) ∷ (127, begin_at 8 363 0 37001575092375844864) ∷
+    (128, begin_at 9 379 0 6751616417922658138112) ∷
+    (129, begin_at 9 378 0 6751616417922658138112) ∷
+    (134, begin_at 10 382 0 6751616418128816699392) ∷
+    (136, begin_at 11 395 0 6751616418128816699392) ∷
+    (137, begin_at 12 398 0 6751616418128816699392) ∷ [])
+    ((18, (1, 348)) ∷ (20, (1, 349)) ∷ (22, (1, 350)) ∷ (24, (1, 351)) ∷ (42, (1, 467)) ∷
+    (43, (1, 353)) ∷ (45, (1, 354)) ∷ (47, (1, 468)) ∷ (50, (1, 356)) ∷ (51, (1, 357)) ∷
+    (52, (1, 358)) ∷ (57, (0, 359)) ∷ (58, (0, 360)) ∷ (59, (0, 361)) ∷ (60, (0, 362)) ∷
+    (61, (0, 363)) ∷ (62, (0, 364)) ∷ (63, (0, 365)) ∷ (66, (0, 366)) ∷ (67, (0, 367)) ∷
+    (69, (0, 368)) ∷ (70, (0, 369)) ∷ (72, (0, 370)) ∷ [])
+    ((113, 589) ∷ (115, 465) ∷ (116, 331) ∷ (117, 332) ∷ (118, 333) ∷ (119, 334) ∷ (120, 335) ∷
+    (121, 336) ∷ (122, 337) ∷ (123, 338) ∷ (124, 339) ∷ (125, 340) ∷ (126, 341) ∷ (127, 342) ∷
+    (128, 343) ∷ (129, 344) ∷ (134, 345) ∷ (136, 346) ∷ (137, 347) ∷ [])
     []
 
 -- after ProgramText ^let ^fun Variable Interface Union' ^-> ^[ CPost
-abbrev pub state_450 : Row
-state_450 = at
-    ((404, 1, 109527543006382129152) ∷ [])
+abbrev pub state_470 : Row
+state_470 = at
+    ((422, 1, 7009762748284531900416) ∷ [])
     []
     []
     []
-    ((404, 109527543006382129152) ∷ [])
-
--- after ProgramText ^let ^fun Variable Interface Union' ^-> ^[ CSelects
-abbrev pub state_451 : Row
-state_451 = at
-    ((377, 1, 109527543006382129152) ∷ (379, 1, 109527543040741867520) ∷ [])
-    []
-    ((35, (0, 566)) ∷ [])
-    []
-    ((377, 109527543006382129152) ∷ [])
+    ((422, 7009762748284531900416) ∷ [])
 
 -- after ProgramText ^let ^fun Variable Interface Union' ^-> ^[ CBase
-abbrev pub state_452 : Row
-state_452 = at
-    ((376, 1, 109527543006382129152) ∷ (378, 1, 109527543040741867520) ∷ [])
-    []
-    ((35, (0, 567)) ∷ [])
-    []
-    ((376, 109527543006382129152) ∷ [])
+abbrev pub state_471 : Row
+state_471 = at
+    ((386, 1, 7009762748284531900416) ∷ (387, 1, 7009762748284531900416) ∷ [])
+    ((132, begin_at 1 387 1 7009762748284531900416) ∷ [])
+    ((17, (1, 461)) ∷ (36, (0, 462)) ∷ (37, (1, 463)) ∷ [])
+    ((132, 590) ∷ [])
+    ((386, 7009762748284531900416) ∷ [])
 
 -- after ProgramText ^let ^fun Variable Interface Union' ^-> ^[ Items
-abbrev pub state_453 : Row
-state_453 = at
-    ((394, 2, 1328165573027847731200) ∷ (400, 1, 109527543006382129152) ∷ [])
-    ((129, begin_at 2 404 0 109527543006382129152) ∷ (130, begin_at 3 377 0 109527543040741867520) ∷
-    (133, begin_at 3 376 0 109527543040741867520) ∷ (134, begin_at 4 384 0 109527543040741867520) ∷
-    (137, begin_at 1 400 1 109527543006382129152) ∷ [])
-    ((17, (1, 335)) ∷ (19, (1, 336)) ∷ (20, (0, 569)) ∷ (21, (1, 337)) ∷ (23, (1, 338)) ∷
-    (36, (0, 456)) ∷ (60, (0, 351)) ∷ (61, (0, 457)) ∷ (62, (0, 458)) ∷ (63, (0, 353)) ∷
-    (64, (0, 354)) ∷ (66, (0, 355)) ∷ [])
-    ((129, 450) ∷ (130, 451) ∷ (133, 452) ∷ (134, 334) ∷ (137, 568) ∷ [])
+abbrev pub state_472 : Row
+state_472 = at
+    ((408, 2, 85002596690545378064384) ∷ (418, 1, 7009762748284531900416) ∷ [])
+    ((131, begin_at 2 422 0 7009762748284531900416) ∷
+    (136, begin_at 3 386 0 7009762748490690461696) ∷
+    (137, begin_at 4 398 0 7009762748490690461696) ∷
+    (140, begin_at 1 418 1 7009762748284531900416) ∷ [])
+    ((18, (1, 348)) ∷ (20, (1, 349)) ∷ (21, (0, 592)) ∷ (22, (1, 350)) ∷ (24, (1, 351)) ∷
+    (38, (0, 475)) ∷ (66, (0, 366)) ∷ (67, (0, 476)) ∷ (68, (0, 477)) ∷ (69, (0, 368)) ∷
+    (70, (0, 369)) ∷ (72, (0, 370)) ∷ [])
+    ((131, 470) ∷ (136, 471) ∷ (137, 347) ∷ (140, 591) ∷ [])
     []
 
 -- after ProgramText ^let ^fun Variable Interface Union' ^-> ^[ Item
-abbrev pub state_454 : Row
-state_454 = at
-    ((399, 1, 109527543006382129152) ∷ [])
+abbrev pub state_473 : Row
+state_473 = at
+    ((417, 1, 7009762748284531900416) ∷ [])
     []
     []
     []
-    ((399, 109527543006382129152) ∷ [])
+    ((417, 7009762748284531900416) ∷ [])
 
 -- after ProgramText ^let ^fun Variable Interface Union' ^-> ^[ ']
-abbrev pub state_455 : Row
-state_455 = at
-    ((393, 2, 1328165573027847731200) ∷ [])
+abbrev pub state_474 : Row
+state_474 = at
+    ((407, 2, 85002596690545378064384) ∷ [])
     []
     []
     []
-    ((393, 1328165573027847731200) ∷ [])
+    ((407, 85002596690545378064384) ∷ [])
 
 -- after ProgramText ^let ^fun Variable Interface Union' ^-> ^[ '!
-abbrev pub state_456 : Row
-state_456 = at
-    ((403, 1, 109527543006382129152) ∷ [])
-    ((125, begin_at 1 403 1 109527543006382129152) ∷ (126, begin_at 2 369 0 109527543040741867520) ∷
-    (131, begin_at 2 368 0 109527543040741867520) ∷ (133, begin_at 3 381 0 109527543040741867520) ∷
-    (134, begin_at 4 384 0 109527543040741867520) ∷ [])
-    ((17, (1, 335)) ∷ (19, (1, 336)) ∷ (21, (1, 337)) ∷ (23, (1, 338)) ∷ (60, (0, 351)) ∷
-    (61, (0, 352)) ∷ (63, (0, 353)) ∷ (64, (0, 354)) ∷ (66, (0, 355)) ∷ [])
-    ((125, 570) ∷ (126, 331) ∷ (131, 332) ∷ (133, 333) ∷ (134, 334) ∷ [])
+abbrev pub state_475 : Row
+state_475 = at
+    ((421, 1, 7009762748284531900416) ∷ [])
+    ((129, begin_at 1 421 1 7009762748284531900416) ∷
+    (134, begin_at 2 382 0 7009762748490690461696) ∷
+    (136, begin_at 3 395 0 7009762748490690461696) ∷
+    (137, begin_at 4 398 0 7009762748490690461696) ∷ [])
+    ((18, (1, 348)) ∷ (20, (1, 349)) ∷ (22, (1, 350)) ∷ (24, (1, 351)) ∷ (66, (0, 366)) ∷
+    (67, (0, 367)) ∷ (69, (0, 368)) ∷ (70, (0, 369)) ∷ (72, (0, 370)) ∷ [])
+    ((129, 593) ∷ (134, 345) ∷ (136, 346) ∷ (137, 347) ∷ [])
     []
 
 -- after ProgramText ^let ^fun Variable Interface Union' ^-> ^[ Char1
-abbrev pub state_457 : Row
-state_457 = at
-    ((401, 1, 109527543006382129152) ∷ [])
+abbrev pub state_476 : Row
+state_476 = at
+    ((419, 1, 7009762748284531900416) ∷ [])
     []
     []
     []
-    ((401, 109527543006382129152) ∷ [])
+    ((419, 7009762748284531900416) ∷ [])
 
 -- after ProgramText ^let ^fun Variable Interface Union' ^-> ^[ CharN
-abbrev pub state_458 : Row
-state_458 = at
-    ((402, 1, 109527543006382129152) ∷ [])
+abbrev pub state_477 : Row
+state_477 = at
+    ((420, 1, 7009762748284531900416) ∷ [])
     []
     []
     []
-    ((402, 109527543006382129152) ∷ [])
+    ((420, 7009762748284531900416) ∷ [])
 
 -- after ProgramText ^let ^fun Variable Interface Union' ^-> ^{ Label
-abbrev pub state_459 : Row
-state_459 = at
-    ((409, 1, 17184063488) ∷ [])
+abbrev pub state_478 : Row
+state_478 = at
+    ((427, 1, 34368126976) ∷ [])
     []
-    ((25, (0, 571)) ∷ [])
+    ((26, (0, 594)) ∷ [])
     []
     []
 
 -- after ProgramText ^let ^fun Variable Interface Union' ^-> ^{ EFields
-abbrev pub state_460 : Row
-state_460 = at
-    ((396, 2, 1328165573027847731200) ∷ [])
+abbrev pub state_479 : Row
+state_479 = at
+    ((410, 2, 85002596690545378064384) ∷ [])
     []
-    ((22, (0, 572)) ∷ [])
+    ((23, (0, 595)) ∷ [])
     []
     []
 
 -- after ProgramText ^let ^fun Variable Interface Union' ^-> ^{ ERow
-abbrev pub state_461 : Row
-state_461 = at
-    ((405, 1, 4194304) ∷ (406, 1, 4194304) ∷ (408, 1, 17184063488) ∷ [])
+abbrev pub state_480 : Row
+state_480 = at
+    ((423, 1, 8388608) ∷ (424, 1, 8388608) ∷ (426, 1, 34368126976) ∷ [])
     []
-    ((34, (0, 573)) ∷ [])
+    ((35, (0, 596)) ∷ [])
     []
-    ((405, 4194304) ∷ [])
+    ((423, 8388608) ∷ [])
 
 -- after ProgramText ^let ^fun Variable Interface Union' ^-> ^{ EField
-abbrev pub state_462 : Row
-state_462 = at
-    ((407, 1, 17184063488) ∷ [])
+abbrev pub state_481 : Row
+state_481 = at
+    ((425, 1, 34368126976) ∷ [])
     []
     []
     []
-    ((407, 17184063488) ∷ [])
+    ((425, 34368126976) ∷ [])
 
 -- after ProgramText ^let ^fun Variable Interface Union' ^-> ^{ '}
-abbrev pub state_463 : Row
-state_463 = at
-    ((395, 2, 1328165573027847731200) ∷ [])
+abbrev pub state_482 : Row
+state_482 = at
+    ((409, 2, 85002596690545378064384) ∷ [])
     []
     []
     []
-    ((395, 1328165573027847731200) ∷ [])
+    ((409, 85002596690545378064384) ∷ [])
 
 -- after ProgramText ^let ^fun Variable Interface Union' ^-> ^< Label
-abbrev pub state_464 : Row
-state_464 = at
-    ((410, 1, 111833385397125251072) ∷ [])
+abbrev pub state_483 : Row
+state_483 = at
+    ((428, 1, 7157336698400316588032) ∷ [])
     []
     []
     []
-    ((410, 111833385397125251072) ∷ [])
+    ((428, 7157336698400316588032) ∷ [])
 
 -- after ProgramText ^let ^fun Variable Interface Union' ^-> ^< ETag
-abbrev pub state_465 : Row
-state_465 = at
-    ((385, 2, 1328165573027847731200) ∷ (386, 2, 1328165573027847731200) ∷ [])
-    ((94, begin_at 5 419 0 33554432) ∷ (142, begin_at 1 386 2 16777216) ∷
-    (143, begin_at 2 412 0 16777216) ∷ (144, begin_at 3 414 0 111833385414304989184) ∷
-    (145, begin_at 4 416 0 111833385414304989184) ∷ [])
-    ((17, (1, 579)) ∷ (24, (0, 580)) ∷ (39, (0, 67)) ∷ (40, (0, 68)) ∷ (41, (0, 69)) ∷
-    (42, (0, 70)) ∷ (43, (0, 71)) ∷ (44, (0, 72)) ∷ (45, (0, 73)) ∷ (46, (0, 74)) ∷ (47, (0, 75)) ∷
-    (48, (0, 76)) ∷ (49, (0, 77)) ∷ (50, (0, 78)) ∷ (51, (0, 79)) ∷ (52, (0, 80)) ∷ (53, (0, 81)) ∷
-    (54, (0, 82)) ∷ (55, (0, 83)) ∷ (56, (0, 84)) ∷ (57, (0, 85)) ∷ (58, (0, 86)) ∷ (59, (0, 87)) ∷
-    (65, (0, 88)) ∷ (66, (0, 89)) ∷ [])
-    ((94, 574) ∷ (142, 575) ∷ (143, 576) ∷ (144, 577) ∷ (145, 578) ∷ [])
+abbrev pub state_484 : Row
+state_484 = at
+    ((399, 2, 85002596690545378064384) ∷ (400, 2, 85002596690545378064384) ∷ [])
+    ((98, begin_at 5 437 0 67108864) ∷ (145, begin_at 1 400 2 33554432) ∷
+    (146, begin_at 2 430 0 33554432) ∷ (147, begin_at 3 432 0 7157336698434676064256) ∷
+    (148, begin_at 4 434 0 7157336698434676064256) ∷ [])
+    ((18, (1, 602)) ∷ (25, (0, 603)) ∷ (41, (0, 69)) ∷ (42, (0, 70)) ∷ (43, (0, 71)) ∷
+    (44, (0, 72)) ∷ (45, (0, 73)) ∷ (46, (0, 74)) ∷ (47, (0, 75)) ∷ (48, (0, 76)) ∷ (49, (0, 77)) ∷
+    (50, (0, 78)) ∷ (51, (0, 79)) ∷ (52, (0, 80)) ∷ (53, (0, 81)) ∷ (54, (0, 82)) ∷ (55, (0, 83)) ∷
+    (56, (0, 84)) ∷ (57, (0, 85)) ∷ (58, (0, 86)) ∷ (59, (0, 87)) ∷ (60, (0, 88)) ∷ (61, (0, 89)) ∷
+    (62, (0, 90)) ∷ (63, (0, 91)) ∷ (64, (0, 92)) ∷ (65, (0, 93)) ∷ (71, (0, 94)) ∷ (72, (0, 95)) ∷
+    [])
+    ((98, 597) ∷ (145, 598) ∷ (146, 599) ∷ (147, 600) ∷ (148, 601) ∷ [])
     []
 
 -- after ProgramText ^let ^fun Variable Interface Union' ^-> ^< ^(
-abbrev pub state_466 : Row
-state_466 = at
-    ((411, 1, 111833385397125251072) ∷ [])
-    ((109, begin_at 1 411 1 262144) ∷ (111, begin_at 2 319 0 262144) ∷
-    (112, begin_at 3 324 0 294912) ∷ (113, begin_at 3 323 0 294912) ∷
-    (114, begin_at 4 328 0 311296) ∷ (115, begin_at 4 327 0 311296) ∷
-    (116, begin_at 5 332 0 311296) ∷ (117, begin_at 5 331 0 59045888) ∷
-    (118, begin_at 6 340 0 137497999360) ∷ (119, begin_at 6 339 0 137497999360) ∷
-    (120, begin_at 7 344 0 139377047552) ∷ (121, begin_at 7 343 0 139377047552) ∷
-    (122, begin_at 8 352 0 27021737275488256) ∷ (123, begin_at 8 351 0 27021737275488256) ∷
-    (124, begin_at 9 365 0 104942878656501315584) ∷ (125, begin_at 9 364 0 104942878656501315584) ∷
-    (126, begin_at 10 369 0 104942878690861053952) ∷
-    (131, begin_at 10 368 0 104942878690861053952) ∷
-    (133, begin_at 11 381 0 104942878690861053952) ∷
-    (134, begin_at 12 384 0 104942878690861053952) ∷ [])
-    ((17, (1, 335)) ∷ (19, (1, 336)) ∷ (21, (1, 337)) ∷ (23, (1, 338)) ∷ (40, (1, 448)) ∷
-    (41, (1, 340)) ∷ (43, (1, 341)) ∷ (45, (1, 449)) ∷ (48, (1, 343)) ∷ (49, (1, 344)) ∷
-    (50, (1, 345)) ∷ (55, (0, 346)) ∷ (56, (0, 347)) ∷ (57, (0, 348)) ∷ (58, (0, 349)) ∷
-    (59, (0, 350)) ∷ (60, (0, 351)) ∷ (61, (0, 352)) ∷ (63, (0, 353)) ∷ (64, (0, 354)) ∷
-    (66, (0, 355)) ∷ [])
-    ((109, 581) ∷ (111, 446) ∷ (112, 317) ∷ (113, 318) ∷ (114, 319) ∷ (115, 320) ∷ (116, 321) ∷
-    (117, 322) ∷ (118, 323) ∷ (119, 324) ∷ (120, 325) ∷ (121, 326) ∷ (122, 327) ∷ (123, 328) ∷
-    (124, 329) ∷ (125, 330) ∷ (126, 331) ∷ (131, 332) ∷ (133, 333) ∷ (134, 334) ∷ [])
+abbrev pub state_485 : Row
+state_485 = at
+    ((429, 1, 7157336698400316588032) ∷ [])
+    ((113, begin_at 1 429 1 524288) ∷ (115, begin_at 2 331 0 524288) ∷
+    (116, begin_at 3 336 0 557056) ∷ (117, begin_at 3 335 0 557056) ∷
+    (118, begin_at 4 340 0 573440) ∷ (119, begin_at 4 339 0 573440) ∷
+    (120, begin_at 5 344 0 573440) ∷ (121, begin_at 5 343 0 118028288) ∷
+    (122, begin_at 6 352 0 549873842176) ∷ (123, begin_at 6 351 0 549873842176) ∷
+    (124, begin_at 7 356 0 553631938560) ∷ (125, begin_at 7 355 0 553631938560) ∷
+    (126, begin_at 8 364 0 108086944957265920) ∷ (127, begin_at 8 363 0 108086944957265920) ∷
+    (128, begin_at 9 379 0 6714722929775239559168) ∷
+    (129, begin_at 9 378 0 6714722929775239559168) ∷
+    (134, begin_at 10 382 0 6714722929981398120448) ∷
+    (136, begin_at 11 395 0 6714722929981398120448) ∷
+    (137, begin_at 12 398 0 6714722929981398120448) ∷ [])
+    ((18, (1, 348)) ∷ (20, (1, 349)) ∷ (22, (1, 350)) ∷ (24, (1, 351)) ∷ (42, (1, 467)) ∷
+    (43, (1, 353)) ∷ (45, (1, 354)) ∷ (47, (1, 468)) ∷ (50, (1, 356)) ∷ (51, (1, 357)) ∷
+    (52, (1, 358)) ∷ (57, (0, 359)) ∷ (58, (0, 360)) ∷ (59, (0, 361)) ∷ (60, (0, 362)) ∷
+    (61, (0, 363)) ∷ (62, (0, 364)) ∷ (63, (0, 365)) ∷ (66, (0, 366)) ∷ (67, (0, 367)) ∷
+    (69, (0, 368)) ∷ (70, (0, 369)) ∷ (72, (0, 370)) ∷ [])
+    ((113, 604) ∷ (115, 465) ∷ (116, 331) ∷ (117, 332) ∷ (118, 333) ∷ (119, 334) ∷ (120, 335) ∷
+    (121, 336) ∷ (122, 337) ∷ (123, 338) ∷ (124, 339) ∷ (125, 340) ∷ (126, 341) ∷ (127, 342) ∷
+    (128, 343) ∷ (129, 344) ∷ (134, 345) ∷ (136, 346) ∷ (137, 347) ∷ [])
     []
 
 -- after ProgramText ^let ^fun Variable Interface Union' ^-> ^let Union'
-abbrev pub state_467 : Row
-state_467 = at
-    ((317, 2, 1180591855488918159360) ∷ (320, 2, 2147483648) ∷ [])
+abbrev pub state_486 : Row
+state_486 = at
+    ((329, 2, 75594758153096221229056) ∷ (332, 2, 4294967296) ∷ [])
     []
-    ((25, (0, 582)) ∷ [])
+    ((26, (0, 605)) ∷ [])
     []
     []
 
 -- after ProgramText ^let ^fun Variable Interface Union' ^-> ^fun Interface
-abbrev pub state_468 : Row
-state_468 = at
-    ((315, 2, 1180591855488918159360) ∷ [])
-    ((54, begin_at 4 310 0 128) ∷ (55, begin_at 5 141 0 2147483776) ∷
-    (56, begin_at 5 140 0 2147483776) ∷ (57, begin_at 6 145 0 7516192896) ∷
-    (58, begin_at 6 144 0 7516192896) ∷ (59, begin_at 7 151 0 7516192896) ∷
-    (61, begin_at 7 150 0 7516192896) ∷ (95, begin_at 8 281 0 7516192896) ∷
-    (103, begin_at 1 315 2 1180591855488918159360) ∷
-    (104, begin_at 2 302 0 1180591855488918159360) ∷ (105, begin_at 3 305 0 141809345341531226113) ∷
-    (106, begin_at 4 306 0 141809345341531226113) ∷ (107, begin_at 5 308 0 2147483648) ∷
-    (108, begin_at 3 304 0 1180591855488918159360) ∷ [])
-    ((0, (0, 247)) ∷ (17, (1, 248)) ∷ (19, (1, 249)) ∷ (21, (1, 250)) ∷ (23, (1, 251)) ∷
-    (31, (0, 252)) ∷ (38, (0, 253)) ∷ (60, (0, 254)) ∷ (61, (0, 255)) ∷ (63, (0, 256)) ∷
-    (64, (0, 257)) ∷ (65, (0, 258)) ∷ (66, (0, 259)) ∷ [])
-    ((54, 233) ∷ (55, 234) ∷ (56, 235) ∷ (57, 236) ∷ (58, 237) ∷ (59, 238) ∷ (61, 239) ∷ (95, 240) ∷
-    (103, 583) ∷ (104, 242) ∷ (105, 243) ∷ (106, 244) ∷ (107, 245) ∷ (108, 246) ∷ [])
+abbrev pub state_487 : Row
+state_487 = at
+    ((327, 2, 75594758153096221229056) ∷ [])
+    ((56, begin_at 4 322 0 128) ∷ (57, begin_at 5 145 0 4294967424) ∷
+    (58, begin_at 5 144 0 4294967424) ∷ (59, begin_at 6 149 0 15032385664) ∷
+    (60, begin_at 6 148 0 15032385664) ∷ (61, begin_at 7 155 0 15032385664) ∷
+    (63, begin_at 7 154 0 15032385664) ∷ (99, begin_at 8 293 0 15032385664) ∷
+    (107, begin_at 1 327 2 75594758153096221229056) ∷
+    (108, begin_at 2 314 0 75594758153096221229056) ∷
+    (109, begin_at 3 317 0 9075798085364633305089) ∷
+    (110, begin_at 4 318 0 9075798085364633305089) ∷ (111, begin_at 5 320 0 4294967296) ∷
+    (112, begin_at 3 316 0 75594758153096221229056) ∷ [])
+    ((0, (0, 259)) ∷ (18, (1, 260)) ∷ (20, (1, 261)) ∷ (22, (1, 262)) ∷ (24, (1, 263)) ∷
+    (32, (0, 264)) ∷ (40, (0, 265)) ∷ (66, (0, 266)) ∷ (67, (0, 267)) ∷ (69, (0, 268)) ∷
+    (70, (0, 269)) ∷ (71, (0, 270)) ∷ (72, (0, 271)) ∷ [])
+    ((56, 245) ∷ (57, 246) ∷ (58, 247) ∷ (59, 248) ∷ (60, 249) ∷ (61, 250) ∷ (63, 251) ∷ (99, 252) ∷
+    (107, 606) ∷ (108, 254) ∷ (109, 255) ∷ (110, 256) ∷ (111, 257) ∷ (112, 258) ∷ [])
     []
 
 -- after ProgramText ^let ^fun Variable Interface Union' ^-> ^fun Variable
-abbrev pub state_469 : Row
-state_469 = at
-    ((316, 2, 1180591855488918159360) ∷ [])
-    ((100, begin_at 1 316 2 141809345343678709761) ∷ [])
-    ((17, (1, 210)) ∷ [])
-    ((100, 584) ∷ [])
+abbrev pub state_488 : Row
+state_488 = at
+    ((328, 2, 75594758153096221229056) ∷ [])
+    ((104, begin_at 1 328 2 9075798085368928272385) ∷ [])
+    ((18, (1, 221)) ∷ [])
+    ((104, 607) ∷ [])
     []
 
 -- after ProgramText ^let ^fun Variable Interface Union' ^-> ^match Expr
-abbrev pub state_470 : Row
-state_470 = at
-    ((311, 2, 1180591855488918159360) ∷ [])
+abbrev pub state_489 : Row
+state_489 = at
+    ((323, 2, 75594758153096221229056) ∷ [])
     []
-    ((44, (0, 585)) ∷ [])
+    ((46, (0, 608)) ∷ [])
     []
     []
 
 -- after ProgramText ^let ^fun Variable Interface Union' ^-> ^if Expr
-abbrev pub state_471 : Row
-state_471 = at
-    ((318, 2, 1180591855488918159360) ∷ (321, 2, 2147483648) ∷ [])
+abbrev pub state_490 : Row
+state_490 = at
+    ((330, 2, 75594758153096221229056) ∷ (333, 2, 4294967296) ∷ [])
     []
-    ((46, (0, 586)) ∷ [])
+    ((48, (0, 609)) ∷ [])
     []
     []
 
 -- after ProgramText ^let ^fun Variable Interface Union' ^-> ^try Expr
-abbrev pub state_472 : Row
-state_472 = at
-    ((312, 2, 1180591855488918159360) ∷ [])
+abbrev pub state_491 : Row
+state_491 = at
+    ((324, 2, 75594758153096221229056) ∷ [])
     []
-    ((44, (0, 587)) ∷ [])
+    ((46, (0, 610)) ∷ [])
     []
     []
 
 -- after ProgramText ^let ^fun Variable Interface Union' ^-> ^map Expr
-abbrev pub state_473 : Row
-state_473 = at
-    ((313, 2, 1180591855488918159360) ∷ [])
+abbrev pub state_492 : Row
+state_492 = at
+    ((325, 2, 75594758153096221229056) ∷ [])
     []
-    ((44, (0, 588)) ∷ [])
+    ((46, (0, 611)) ∷ [])
     []
     []
 
 -- after ProgramText ^let ^fun Variable Interface Union' ^-> ^transform Expr
-abbrev pub state_474 : Row
-state_474 = at
-    ((314, 2, 1180591855488918159360) ∷ [])
+abbrev pub state_493 : Row
+state_493 = at
+    ((326, 2, 75594758153096221229056) ∷ [])
     []
-    ((44, (0, 589)) ∷ [])
+    ((46, (0, 612)) ∷ [])
     []
     []
 
 -- after ProgramText ^let ^fun Variable Interface Union' ^-> 'not Post
-abbrev pub state_475 : Row
-state_475 = at
-    ((359, 2, 1180618877228340869120) ∷ [])
+abbrev pub state_494 : Row
+state_494 = at
+    ((371, 2, 75594875247244727678976) ∷ [])
     []
     []
     []
-    ((359, 1180618877228340869120) ∷ [])
+    ((371, 75594875247244727678976) ∷ [])
 
 -- after ProgramText ^let ^fun Variable Interface Union' ^-> 'flatten Post
-abbrev pub state_476 : Row
-state_476 = at
-    ((360, 2, 1180618877228340869120) ∷ [])
+abbrev pub state_495 : Row
+state_495 = at
+    ((372, 2, 75594875247244727678976) ∷ [])
     []
     []
     []
-    ((360, 1180618877228340869120) ∷ [])
+    ((372, 75594875247244727678976) ∷ [])
 
 -- after ProgramText ^let ^fun Variable Interface Union' ^-> 'int_of Post
-abbrev pub state_477 : Row
-state_477 = at
-    ((361, 2, 1180618877228340869120) ∷ [])
+abbrev pub state_496 : Row
+state_496 = at
+    ((373, 2, 75594875247244727678976) ∷ [])
     []
     []
     []
-    ((361, 1180618877228340869120) ∷ [])
+    ((373, 75594875247244727678976) ∷ [])
 
 -- after ProgramText ^let ^fun Variable Interface Union' ^-> 'string_of Post
-abbrev pub state_478 : Row
-state_478 = at
-    ((362, 2, 1180618877228340869120) ∷ [])
+abbrev pub state_497 : Row
+state_497 = at
+    ((374, 2, 75594875247244727678976) ∷ [])
     []
     []
     []
-    ((362, 1180618877228340869120) ∷ [])
+    ((374, 75594875247244727678976) ∷ [])
+
+-- after ProgramText ^let ^fun Variable Interface Union' ^-> 'min_of Post
+abbrev pub state_498 : Row
+state_498 = at
+    ((375, 2, 75594875247244727678976) ∷ [])
+    []
+    []
+    []
+    ((375, 75594875247244727678976) ∷ [])
+
+-- after ProgramText ^let ^fun Variable Interface Union' ^-> 'max_of Post
+abbrev pub state_499 : Row
+state_499 = at
+    ((376, 2, 75594875247244727678976) ∷ [])
+    []
+    []
+    []
+    ((376, 75594875247244727678976) ∷ [])
 
 -- after ProgramText ^let ^fun Variable Interface Union' ^-> 'raise Post
-abbrev pub state_479 : Row
-state_479 = at
-    ((363, 2, 1180618877228340869120) ∷ [])
+abbrev pub state_500 : Row
+state_500 = at
+    ((377, 2, 75594875247244727678976) ∷ [])
     []
     []
     []
-    ((363, 1180618877228340869120) ∷ [])
+    ((377, 75594875247244727678976) ∷ [])
 
 -- after ProgramText ^let ^fun Variable Interface ^( Tree' ', Tree'
-abbrev pub state_480 : Row
-state_480 = at
-    ((154, 3, 8590196736) ∷ [])
+abbrev pub state_501 : Row
+state_501 = at
+    ((158, 3, 17180393472) ∷ [])
     []
     []
     []
-    ((154, 8590196736) ∷ [])
+    ((158, 17180393472) ∷ [])
 
 -- after ProgramText ^let ^fun Variable Interface ^( Arrow' 'where Names'
-abbrev pub state_481 : Row
-state_481 = at
-    ((132, 3, 25774261248) ∷ (134, 1, 4503625401631744) ∷ [])
+abbrev pub state_502 : Row
+state_502 = at
+    ((136, 3, 1151060149248) ∷ (138, 1, 18015549569631232) ∷ [])
     []
-    ((52, (0, 590)) ∷ [])
+    ((54, (0, 613)) ∷ [])
     []
-    ((132, 25774261248) ∷ [])
+    ((136, 1151060149248) ∷ [])
 
 -- after ProgramText ^let ^fun Variable Interface ^( Arrow' 'where Name'
-abbrev pub state_482 : Row
-state_482 = at
-    ((133, 1, 4503625401631744) ∷ [])
+abbrev pub state_503 : Row
+state_503 = at
+    ((137, 1, 18015549569631232) ∷ [])
     []
     []
     []
-    ((133, 4503625401631744) ∷ [])
+    ((137, 18015549569631232) ∷ [])
 
 -- after ProgramText ^let ^fun Variable Interface ^( Arrow' 'where TypeName
-abbrev pub state_483 : Row
-state_483 = at
-    ((135, 1, 4503625401631744) ∷ [])
+abbrev pub state_504 : Row
+state_504 = at
+    ((139, 1, 18015549569631232) ∷ [])
     []
-    ((25, (0, 591)) ∷ [])
+    ((26, (0, 614)) ∷ [])
     []
     []
 
 -- after ProgramText ^let ^fun Variable Interface ^( Union' ^-> Arrows'
-abbrev pub state_484 : Row
-state_484 = at
-    ((139, 3, 6755425215316992) ∷ [])
+abbrev pub state_505 : Row
+state_505 = at
+    ((143, 3, 27022748824372224) ∷ [])
     []
     []
     []
-    ((139, 6755425215316992) ∷ [])
+    ((143, 27022748824372224) ∷ [])
 
 -- after ProgramText ^let ^fun Variable Interface ^( Union' ^-> Union'
-abbrev pub state_485 : Row
-state_485 = at
-    ((138, 1, 6755425215316992) ∷ (138, 3, 6755425215316992) ∷ (139, 1, 6755425215316992) ∷ [])
+abbrev pub state_506 : Row
+state_506 = at
+    ((142, 1, 27022748824372224) ∷ (142, 3, 27022748824372224) ∷ (143, 1, 27022748824372224) ∷ [])
     []
-    ((7, (1, 365)) ∷ [])
+    ((7, (1, 380)) ∷ [])
     []
-    ((138, 6755425215316992) ∷ [])
+    ((142, 27022748824372224) ∷ [])
 
 -- after ProgramText ^let ^fun Variable Interface ^( Trees' ', Tree'
-abbrev pub state_486 : Row
-state_486 = at
-    ((155, 3, 8590196736) ∷ [])
+abbrev pub state_507 : Row
+state_507 = at
+    ((159, 3, 17180393472) ∷ [])
     []
     []
     []
-    ((155, 8590196736) ∷ [])
+    ((159, 17180393472) ∷ [])
 
 -- after ProgramText ^let ^fun Variable Interface ^( Variable ':= Constant
-abbrev pub state_487 : Row
-state_487 = at
-    ((283, 4, 147573952348621243549) ∷ [])
+abbrev pub state_508 : Row
+state_508 = at
+    ((295, 4, 9444732964707424273565) ∷ [])
     []
-    ((18, (0, 592)) ∷ [])
+    ((19, (0, 615)) ∷ [])
     []
     []
 
 -- after ProgramText ^let ^fun Variable Interface ^( Variable ':= ^[
-abbrev pub state_488 : Row
-state_488 = at
-    ((288, 1, 262144) ∷ [])
+abbrev pub state_509 : Row
+state_509 = at
+    ((300, 1, 524288) ∷ [])
     []
-    ((20, (0, 593)) ∷ [])
+    ((21, (0, 616)) ∷ [])
     []
     []
 
 -- after ProgramText ^let ^fun Variable Interface ^( Variable ':= Int
-abbrev pub state_489 : Row
-state_489 = at
-    ((284, 1, 262144) ∷ [])
+abbrev pub state_510 : Row
+state_510 = at
+    ((296, 1, 524288) ∷ [])
     []
     []
     []
-    ((284, 262144) ∷ [])
+    ((296, 524288) ∷ [])
 
 -- after ProgramText ^let ^fun Variable Interface ^( Variable ':= Char1
-abbrev pub state_490 : Row
-state_490 = at
-    ((285, 1, 262144) ∷ [])
+abbrev pub state_511 : Row
+state_511 = at
+    ((297, 1, 524288) ∷ [])
     []
     []
     []
-    ((285, 262144) ∷ [])
+    ((297, 524288) ∷ [])
 
 -- after ProgramText ^let ^fun Variable Interface ^( Variable ':= Text
-abbrev pub state_491 : Row
-state_491 = at
-    ((286, 1, 262144) ∷ [])
+abbrev pub state_512 : Row
+state_512 = at
+    ((298, 1, 524288) ∷ [])
     []
     []
     []
-    ((286, 262144) ∷ [])
+    ((298, 524288) ∷ [])
 
 -- after ProgramText ^let ^fun Variable Interface ^( Variable ':= Atom
-abbrev pub state_492 : Row
-state_492 = at
-    ((287, 1, 262144) ∷ [])
+abbrev pub state_513 : Row
+state_513 = at
+    ((299, 1, 524288) ∷ [])
     []
     []
     []
-    ((287, 262144) ∷ [])
+    ((299, 524288) ∷ [])
 
 -- after ProgramText ^let ^fun Variable Interface ^[ Alts' '| RSeq'
-abbrev pub state_493 : Row
-state_493 = at
-    ((199, 3, 2148532224) ∷ [])
+abbrev pub state_514 : Row
+state_514 = at
+    ((207, 3, 4297064448) ∷ [])
     []
     []
     []
-    ((199, 2148532224) ∷ [])
+    ((207, 4297064448) ∷ [])
 
 -- after ProgramText ^let ^fun Variable Interface ^[ RSeq' '| RSeq'
-abbrev pub state_494 : Row
-state_494 = at
-    ((198, 3, 2148532224) ∷ [])
+abbrev pub state_515 : Row
+state_515 = at
+    ((206, 3, 4297064448) ∷ [])
     []
     []
     []
-    ((198, 2148532224) ∷ [])
+    ((206, 4297064448) ∷ [])
 
 -- after ProgramText ^let ^fun Variable Interface ^[ ISigns' '\ Simple'
-abbrev pub state_495 : Row
-state_495 = at
-    ((231, 3, 146423283176349499549) ∷ [])
+abbrev pub state_516 : Row
+state_516 = at
+    ((239, 3, 9370954997776395272349) ∷ [])
     []
     []
     []
-    ((231, 146423283176349499549) ∷ [])
+    ((239, 9370954997776395272349) ∷ [])
 
 -- after ProgramText ^let ^fun Variable Interface ^[ ISigns' '& Simple'
-abbrev pub state_496 : Row
-state_496 = at
-    ((230, 3, 146423283176349499549) ∷ [])
+abbrev pub state_517 : Row
+state_517 = at
+    ((238, 3, 9370954997776395272349) ∷ [])
     []
     []
     []
-    ((230, 146423283176349499549) ∷ [])
+    ((238, 9370954997776395272349) ∷ [])
 
 -- after ProgramText ^let ^fun Variable Interface ^[ IBase' '\ Simple'
-abbrev pub state_497 : Row
-state_497 = at
-    ((229, 3, 146423283176349499549) ∷ [])
+abbrev pub state_518 : Row
+state_518 = at
+    ((237, 3, 9370954997776395272349) ∷ [])
     []
     []
     []
-    ((229, 146423283176349499549) ∷ [])
+    ((237, 9370954997776395272349) ∷ [])
 
 -- after ProgramText ^let ^fun Variable Interface ^[ IBase' '& Simple'
-abbrev pub state_498 : Row
-state_498 = at
-    ((228, 3, 146423283176349499549) ∷ [])
+abbrev pub state_519 : Row
+state_519 = at
+    ((236, 3, 9370954997776395272349) ∷ [])
     []
     []
     []
-    ((228, 146423283176349499549) ∷ [])
+    ((236, 9370954997776395272349) ∷ [])
 
 -- after ProgramText ^let ^fun Variable Interface ^[ ^( Group' Postfix
-abbrev pub state_499 : Row
-state_499 = at
-    ((224, 2, 146421031362106359809) ∷ [])
+abbrev pub state_520 : Row
+state_520 = at
+    ((232, 2, 9370945990548281622529) ∷ [])
     []
     []
     []
-    ((224, 146421031362106359809) ∷ [])
+    ((232, 9370945990548281622529) ∷ [])
 
 -- after ProgramText ^let ^fun Variable Interface ^[ ^( GReg' ')
-abbrev pub state_500 : Row
-state_500 = at
-    ((209, 3, 146421031362577170461) ∷ [])
+abbrev pub state_521 : Row
+state_521 = at
+    ((217, 3, 9370945990549223243805) ∷ [])
     []
     []
     []
-    ((209, 146421031362577170461) ∷ [])
+    ((217, 9370945990549223243805) ∷ [])
 
 -- after ProgramText ^let ^fun Variable Interface ^[ ^( GAlts' '|
-abbrev pub state_501 : Row
-state_501 = at
-    ((216, 2, 2147745792) ∷ (217, 2, 2147745792) ∷ [])
-    ((61, begin_at 3 232 0 146421031367944831005) ∷ (76, begin_at 3 223 0 146421031362576121885) ∷
-    (79, begin_at 1 216 2 2147745792) ∷ (80, begin_at 2 219 0 146421031362106359809) ∷
-    (81, begin_at 2 218 0 146421031362106359809) ∷ (82, begin_at 1 217 2 146421031362576121885) ∷
-    (83, begin_at 2 227 0 146421031367944831005) ∷ (84, begin_at 2 226 0 146421031367944831005) ∷
-    (85, begin_at 3 234 0 146421031367944831005) ∷ (95, begin_at 4 282 0 146421031367944831005) ∷
+abbrev pub state_522 : Row
+state_522 = at
+    ((224, 2, 4295491584) ∷ (225, 2, 4295491584) ∷ [])
+    ((63, begin_at 3 240 0 9370945990559958564893) ∷ (80, begin_at 3 231 0 9370945990549221146653) ∷
+    (83, begin_at 1 224 2 4295491584) ∷ (84, begin_at 2 227 0 9370945990548281622529) ∷
+    (85, begin_at 2 226 0 9370945990548281622529) ∷ (86, begin_at 1 225 2 9370945990549221146653) ∷
+    (87, begin_at 2 235 0 9370945990559958564893) ∷ (88, begin_at 2 234 0 9370945990559958564893) ∷
+    (89, begin_at 3 242 0 9370945990559958564893) ∷ (99, begin_at 4 294 0 9370945990559958564893) ∷
     [])
-    ((0, (0, 247)) ∷ (17, (1, 293)) ∷ (19, (1, 249)) ∷ (21, (1, 250)) ∷ (23, (1, 251)) ∷
-    (38, (0, 253)) ∷ (60, (0, 254)) ∷ (61, (0, 255)) ∷ (62, (0, 295)) ∷ (63, (0, 256)) ∷
-    (64, (0, 257)) ∷ (65, (0, 258)) ∷ (66, (0, 596)) ∷ [])
-    ((61, 280) ∷ (76, 379) ∷ (79, 594) ∷ (80, 383) ∷ (81, 384) ∷ (82, 595) ∷ (83, 289) ∷ (84, 290) ∷
-    (85, 291) ∷ (95, 292) ∷ [])
+    ((0, (0, 259)) ∷ (18, (1, 305)) ∷ (20, (1, 261)) ∷ (22, (1, 262)) ∷ (24, (1, 263)) ∷
+    (40, (0, 265)) ∷ (66, (0, 266)) ∷ (67, (0, 267)) ∷ (68, (0, 307)) ∷ (69, (0, 268)) ∷
+    (70, (0, 269)) ∷ (71, (0, 270)) ∷ (72, (0, 619)) ∷ [])
+    ((63, 292) ∷ (80, 394) ∷ (83, 617) ∷ (84, 398) ∷ (85, 399) ∷ (86, 618) ∷ (87, 301) ∷ (88, 302) ∷
+    (89, 303) ∷ (99, 304) ∷ [])
     []
 
 -- after ProgramText ^let ^fun Variable Interface ^[ ^( GSeq' '|
-abbrev pub state_502 : Row
-state_502 = at
-    ((212, 2, 2147745792) ∷ (213, 2, 2147745792) ∷ [])
-    ((61, begin_at 3 232 0 146421031367944831005) ∷ (76, begin_at 3 223 0 146421031362576121885) ∷
-    (79, begin_at 1 212 2 2147745792) ∷ (80, begin_at 2 219 0 146421031362106359809) ∷
-    (81, begin_at 2 218 0 146421031362106359809) ∷ (82, begin_at 1 213 2 146421031362576121885) ∷
-    (83, begin_at 2 227 0 146421031367944831005) ∷ (84, begin_at 2 226 0 146421031367944831005) ∷
-    (85, begin_at 3 234 0 146421031367944831005) ∷ (95, begin_at 4 282 0 146421031367944831005) ∷
+abbrev pub state_523 : Row
+state_523 = at
+    ((220, 2, 4295491584) ∷ (221, 2, 4295491584) ∷ [])
+    ((63, begin_at 3 240 0 9370945990559958564893) ∷ (80, begin_at 3 231 0 9370945990549221146653) ∷
+    (83, begin_at 1 220 2 4295491584) ∷ (84, begin_at 2 227 0 9370945990548281622529) ∷
+    (85, begin_at 2 226 0 9370945990548281622529) ∷ (86, begin_at 1 221 2 9370945990549221146653) ∷
+    (87, begin_at 2 235 0 9370945990559958564893) ∷ (88, begin_at 2 234 0 9370945990559958564893) ∷
+    (89, begin_at 3 242 0 9370945990559958564893) ∷ (99, begin_at 4 294 0 9370945990559958564893) ∷
     [])
-    ((0, (0, 247)) ∷ (17, (1, 293)) ∷ (19, (1, 249)) ∷ (21, (1, 250)) ∷ (23, (1, 251)) ∷
-    (38, (0, 253)) ∷ (60, (0, 254)) ∷ (61, (0, 255)) ∷ (62, (0, 295)) ∷ (63, (0, 256)) ∷
-    (64, (0, 257)) ∷ (65, (0, 258)) ∷ (66, (0, 596)) ∷ [])
-    ((61, 280) ∷ (76, 379) ∷ (79, 597) ∷ (80, 383) ∷ (81, 384) ∷ (82, 598) ∷ (83, 289) ∷ (84, 290) ∷
-    (85, 291) ∷ (95, 292) ∷ [])
+    ((0, (0, 259)) ∷ (18, (1, 305)) ∷ (20, (1, 261)) ∷ (22, (1, 262)) ∷ (24, (1, 263)) ∷
+    (40, (0, 265)) ∷ (66, (0, 266)) ∷ (67, (0, 267)) ∷ (68, (0, 307)) ∷ (69, (0, 268)) ∷
+    (70, (0, 269)) ∷ (71, (0, 270)) ∷ (72, (0, 619)) ∷ [])
+    ((63, 292) ∷ (80, 394) ∷ (83, 620) ∷ (84, 398) ∷ (85, 399) ∷ (86, 621) ∷ (87, 301) ∷ (88, 302) ∷
+    (89, 303) ∷ (99, 304) ∷ [])
     []
 
 -- after ProgramText ^let ^fun Variable Interface ^[ ^( GPosts' RPost'
-abbrev pub state_503 : Row
-state_503 = at
-    ((222, 2, 146421031362106359809) ∷ [])
+abbrev pub state_524 : Row
+state_524 = at
+    ((230, 2, 9370945990548281622529) ∷ [])
     []
     []
     []
-    ((222, 146421031362106359809) ∷ [])
+    ((230, 9370945990548281622529) ∷ [])
 
 -- after ProgramText ^let ^fun Variable Interface ^[ ^( GItem' RPost'
-abbrev pub state_504 : Row
-state_504 = at
-    ((220, 2, 146421031362106359809) ∷ [])
+abbrev pub state_525 : Row
+state_525 = at
+    ((228, 2, 9370945990548281622529) ∷ [])
     []
     []
     []
-    ((220, 146421031362106359809) ∷ [])
+    ((228, 9370945990548281622529) ∷ [])
 
 -- after ProgramText ^let ^fun Variable Interface ^[ ^( IItem' RPost'
-abbrev pub state_505 : Row
-state_505 = at
-    ((221, 2, 146421031362106359809) ∷ [])
+abbrev pub state_526 : Row
+state_526 = at
+    ((229, 2, 9370945990548281622529) ∷ [])
     []
     []
     []
-    ((221, 146421031362106359809) ∷ [])
+    ((229, 9370945990548281622529) ∷ [])
 
 -- after ProgramText ^let ^fun Variable Interface ^[ ^( IItem' Postfix
-abbrev pub state_506 : Row
-state_506 = at
-    ((225, 2, 146421031362106359809) ∷ [])
+abbrev pub state_527 : Row
+state_527 = at
+    ((233, 2, 9370945990548281622529) ∷ [])
     []
     []
     []
-    ((225, 146421031362106359809) ∷ [])
+    ((233, 9370945990548281622529) ∷ [])
 
 -- after ProgramText ^let ^fun Variable Interface ^[ ^( IItem' '|
-abbrev pub state_507 : Row
-state_507 = at
-    ((214, 2, 2147745792) ∷ (249, 2, 2251810551365760) ∷ [])
-    ((61, begin_at 3 232 0 146423283176348450973) ∷ (76, begin_at 3 223 0 146421031362576121885) ∷
-    (79, begin_at 1 214 2 2147745792) ∷ (80, begin_at 2 219 0 146421031362106359809) ∷
-    (81, begin_at 2 218 0 146421031362106359809) ∷ (82, begin_at 1 249 2 146423283170979741853) ∷
-    (83, begin_at 2 227 0 146423283176348450973) ∷ (84, begin_at 2 226 0 146423283176348450973) ∷
-    (85, begin_at 3 234 0 146423283176348450973) ∷ (95, begin_at 4 282 0 146423283176348450973) ∷
+abbrev pub state_528 : Row
+state_528 = at
+    ((222, 2, 4295491584) ∷ (257, 2, 9007220730101888) ∷ [])
+    ((63, begin_at 3 240 0 9370954997776393175197) ∷ (80, begin_at 3 231 0 9370945990549221146653) ∷
+    (83, begin_at 1 222 2 4295491584) ∷ (84, begin_at 2 227 0 9370945990548281622529) ∷
+    (85, begin_at 2 226 0 9370945990548281622529) ∷ (86, begin_at 1 257 2 9370954997765655756957) ∷
+    (87, begin_at 2 235 0 9370954997776393175197) ∷ (88, begin_at 2 234 0 9370954997776393175197) ∷
+    (89, begin_at 3 242 0 9370954997776393175197) ∷ (99, begin_at 4 294 0 9370954997776393175197) ∷
     [])
-    ((0, (0, 247)) ∷ (17, (1, 293)) ∷ (19, (1, 249)) ∷ (21, (1, 250)) ∷ (23, (1, 251)) ∷
-    (38, (0, 253)) ∷ (60, (0, 254)) ∷ (61, (0, 255)) ∷ (62, (0, 295)) ∷ (63, (0, 256)) ∷
-    (64, (0, 257)) ∷ (65, (0, 258)) ∷ (66, (0, 596)) ∷ [])
-    ((61, 280) ∷ (76, 379) ∷ (79, 599) ∷ (80, 383) ∷ (81, 384) ∷ (82, 600) ∷ (83, 289) ∷ (84, 290) ∷
-    (85, 291) ∷ (95, 292) ∷ [])
+    ((0, (0, 259)) ∷ (18, (1, 305)) ∷ (20, (1, 261)) ∷ (22, (1, 262)) ∷ (24, (1, 263)) ∷
+    (40, (0, 265)) ∷ (66, (0, 266)) ∷ (67, (0, 267)) ∷ (68, (0, 307)) ∷ (69, (0, 268)) ∷
+    (70, (0, 269)) ∷ (71, (0, 270)) ∷ (72, (0, 619)) ∷ [])
+    ((63, 292) ∷ (80, 394) ∷ (83, 622) ∷ (84, 398) ∷ (85, 399) ∷ (86, 623) ∷ (87, 301) ∷ (88, 302) ∷
+    (89, 303) ∷ (99, 304) ∷ [])
     []
 
 -- after ProgramText ^let ^fun Variable Interface ^[ ^( ITrees' ')
-abbrev pub state_508 : Row
-state_508 = at
-    ((235, 3, 146423283176349499549) ∷ [])
+abbrev pub state_529 : Row
+state_529 = at
+    ((243, 3, 9370954997776395272349) ∷ [])
     []
     []
     []
-    ((235, 146423283176349499549) ∷ [])
+    ((243, 9370954997776395272349) ∷ [])
 
 -- after ProgramText ^let ^fun Variable Interface ^[ ^( ITrees' ',
-abbrev pub state_509 : Row
-state_509 = at
-    ((238, 2, 8590196736) ∷ [])
-    ((49, begin_at 1 238 2 8590196736) ∷ (52, begin_at 2 131 0 2251808403881984) ∷
-    (53, begin_at 3 137 0 2251808403881984) ∷ (54, begin_at 3 136 0 2251808403882112) ∷
-    (55, begin_at 4 141 0 2251810551365760) ∷ (56, begin_at 4 140 0 2251810551365760) ∷
-    (57, begin_at 5 145 0 2251815920074880) ∷ (58, begin_at 5 144 0 2251815920074880) ∷
-    (59, begin_at 6 151 0 2251815920074880) ∷ (61, begin_at 6 150 0 2251815920074880) ∷
-    (95, begin_at 7 281 0 2251815920074880) ∷ [])
-    ((0, (0, 247)) ∷ (17, (1, 248)) ∷ (19, (1, 249)) ∷ (21, (1, 250)) ∷ (23, (1, 251)) ∷
-    (38, (0, 253)) ∷ (60, (0, 254)) ∷ (61, (0, 255)) ∷ (63, (0, 256)) ∷ (64, (0, 257)) ∷
-    (65, (0, 258)) ∷ (66, (0, 259)) ∷ [])
-    ((49, 601) ∷ (52, 275) ∷ (53, 276) ∷ (54, 277) ∷ (55, 234) ∷ (56, 235) ∷ (57, 236) ∷ (58, 237) ∷
-    (59, 238) ∷ (61, 239) ∷ (95, 240) ∷ [])
+abbrev pub state_530 : Row
+state_530 = at
+    ((246, 2, 17180393472) ∷ [])
+    ((51, begin_at 1 246 2 17180393472) ∷ (54, begin_at 2 135 0 9007216435134464) ∷
+    (55, begin_at 3 141 0 9007216435134464) ∷ (56, begin_at 3 140 0 9007216435134592) ∷
+    (57, begin_at 4 145 0 9007220730101888) ∷ (58, begin_at 4 144 0 9007220730101888) ∷
+    (59, begin_at 5 149 0 9007231467520128) ∷ (60, begin_at 5 148 0 9007231467520128) ∷
+    (61, begin_at 6 155 0 9007231467520128) ∷ (63, begin_at 6 154 0 9007231467520128) ∷
+    (99, begin_at 7 293 0 9007231467520128) ∷ [])
+    ((0, (0, 259)) ∷ (18, (1, 260)) ∷ (20, (1, 261)) ∷ (22, (1, 262)) ∷ (24, (1, 263)) ∷
+    (40, (0, 265)) ∷ (66, (0, 266)) ∷ (67, (0, 267)) ∷ (69, (0, 268)) ∷ (70, (0, 269)) ∷
+    (71, (0, 270)) ∷ (72, (0, 271)) ∷ [])
+    ((51, 624) ∷ (54, 287) ∷ (55, 288) ∷ (56, 289) ∷ (57, 246) ∷ (58, 247) ∷ (59, 248) ∷ (60, 249) ∷
+    (61, 250) ∷ (63, 251) ∷ (99, 252) ∷ [])
     []
 
 -- after ProgramText ^let ^fun Variable Interface ^[ ^( ITree' ',
-abbrev pub state_510 : Row
-state_510 = at
-    ((237, 2, 8590196736) ∷ [])
-    ((49, begin_at 1 237 2 8590196736) ∷ (52, begin_at 2 131 0 2251808403881984) ∷
-    (53, begin_at 3 137 0 2251808403881984) ∷ (54, begin_at 3 136 0 2251808403882112) ∷
-    (55, begin_at 4 141 0 2251810551365760) ∷ (56, begin_at 4 140 0 2251810551365760) ∷
-    (57, begin_at 5 145 0 2251815920074880) ∷ (58, begin_at 5 144 0 2251815920074880) ∷
-    (59, begin_at 6 151 0 2251815920074880) ∷ (61, begin_at 6 150 0 2251815920074880) ∷
-    (95, begin_at 7 281 0 2251815920074880) ∷ [])
-    ((0, (0, 247)) ∷ (17, (1, 248)) ∷ (19, (1, 249)) ∷ (21, (1, 250)) ∷ (23, (1, 251)) ∷
-    (38, (0, 253)) ∷ (60, (0, 254)) ∷ (61, (0, 255)) ∷ (63, (0, 256)) ∷ (64, (0, 257)) ∷
-    (65, (0, 258)) ∷ (66, (0, 259)) ∷ [])
-    ((49, 602) ∷ (52, 275) ∷ (53, 276) ∷ (54, 277) ∷ (55, 234) ∷ (56, 235) ∷ (57, 236) ∷ (58, 237) ∷
-    (59, 238) ∷ (61, 239) ∷ (95, 240) ∷ [])
+abbrev pub state_531 : Row
+state_531 = at
+    ((245, 2, 17180393472) ∷ [])
+    ((51, begin_at 1 245 2 17180393472) ∷ (54, begin_at 2 135 0 9007216435134464) ∷
+    (55, begin_at 3 141 0 9007216435134464) ∷ (56, begin_at 3 140 0 9007216435134592) ∷
+    (57, begin_at 4 145 0 9007220730101888) ∷ (58, begin_at 4 144 0 9007220730101888) ∷
+    (59, begin_at 5 149 0 9007231467520128) ∷ (60, begin_at 5 148 0 9007231467520128) ∷
+    (61, begin_at 6 155 0 9007231467520128) ∷ (63, begin_at 6 154 0 9007231467520128) ∷
+    (99, begin_at 7 293 0 9007231467520128) ∷ [])
+    ((0, (0, 259)) ∷ (18, (1, 260)) ∷ (20, (1, 261)) ∷ (22, (1, 262)) ∷ (24, (1, 263)) ∷
+    (40, (0, 265)) ∷ (66, (0, 266)) ∷ (67, (0, 267)) ∷ (69, (0, 268)) ∷ (70, (0, 269)) ∷
+    (71, (0, 270)) ∷ (72, (0, 271)) ∷ [])
+    ((51, 625) ∷ (54, 287) ∷ (55, 288) ∷ (56, 289) ∷ (57, 246) ∷ (58, 247) ∷ (59, 248) ∷ (60, 249) ∷
+    (61, 250) ∷ (63, 251) ∷ (99, 252) ∷ [])
     []
 
 -- after ProgramText ^let ^fun Variable Interface ^[ ^( OwnTree' ')
-abbrev pub state_511 : Row
-state_511 = at
-    ((236, 3, 146423283176349499549) ∷ [])
+abbrev pub state_532 : Row
+state_532 = at
+    ((244, 3, 9370954997776395272349) ∷ [])
     []
     []
     []
-    ((236, 146423283176349499549) ∷ [])
+    ((244, 9370954997776395272349) ∷ [])
 
 -- after ProgramText ^let ^fun Variable Interface ^[ ^( IArrow' 'where
-abbrev pub state_512 : Row
-state_512 = at
-    ((242, 2, 8590196736) ∷ [])
-    ((50, begin_at 1 242 2 4503608217567232) ∷ (51, begin_at 2 133 0 4503608217567232) ∷ [])
-    ((65, (0, 483)) ∷ [])
-    ((50, 603) ∷ (51, 482) ∷ [])
+abbrev pub state_533 : Row
+state_533 = at
+    ((250, 2, 17180393472) ∷ [])
+    ((52, begin_at 1 250 2 18014415689875456) ∷ (53, begin_at 2 137 0 18014415689875456) ∷ [])
+    ((71, (0, 504)) ∷ [])
+    ((52, 626) ∷ (53, 503) ∷ [])
     []
 
 -- after ProgramText ^let ^fun Variable Interface ^[ ^( IUnion' ^->
-abbrev pub state_513 : Row
-state_513 = at
-    ((245, 2, 2251808403881984) ∷ (246, 2, 2251808403881984) ∷ [])
-    ((53, begin_at 1 246 2 2251808403881984) ∷ (54, begin_at 1 245 2 2251808403882112) ∷
-    (55, begin_at 2 141 0 2251810551365760) ∷ (56, begin_at 2 140 0 2251810551365760) ∷
-    (57, begin_at 3 145 0 2251815920074880) ∷ (58, begin_at 3 144 0 2251815920074880) ∷
-    (59, begin_at 4 151 0 2251815920074880) ∷ (61, begin_at 4 150 0 2251815920074880) ∷
-    (95, begin_at 5 281 0 2251815920074880) ∷ [])
-    ((0, (0, 247)) ∷ (17, (1, 248)) ∷ (19, (1, 249)) ∷ (21, (1, 250)) ∷ (23, (1, 251)) ∷
-    (38, (0, 253)) ∷ (60, (0, 254)) ∷ (61, (0, 255)) ∷ (63, (0, 256)) ∷ (64, (0, 257)) ∷
-    (65, (0, 258)) ∷ (66, (0, 259)) ∷ [])
-    ((53, 604) ∷ (54, 605) ∷ (55, 234) ∷ (56, 235) ∷ (57, 236) ∷ (58, 237) ∷ (59, 238) ∷ (61, 239) ∷
-    (95, 240) ∷ [])
+abbrev pub state_534 : Row
+state_534 = at
+    ((253, 2, 9007216435134464) ∷ (254, 2, 9007216435134464) ∷ [])
+    ((55, begin_at 1 254 2 9007216435134464) ∷ (56, begin_at 1 253 2 9007216435134592) ∷
+    (57, begin_at 2 145 0 9007220730101888) ∷ (58, begin_at 2 144 0 9007220730101888) ∷
+    (59, begin_at 3 149 0 9007231467520128) ∷ (60, begin_at 3 148 0 9007231467520128) ∷
+    (61, begin_at 4 155 0 9007231467520128) ∷ (63, begin_at 4 154 0 9007231467520128) ∷
+    (99, begin_at 5 293 0 9007231467520128) ∷ [])
+    ((0, (0, 259)) ∷ (18, (1, 260)) ∷ (20, (1, 261)) ∷ (22, (1, 262)) ∷ (24, (1, 263)) ∷
+    (40, (0, 265)) ∷ (66, (0, 266)) ∷ (67, (0, 267)) ∷ (69, (0, 268)) ∷ (70, (0, 269)) ∷
+    (71, (0, 270)) ∷ (72, (0, 271)) ∷ [])
+    ((55, 627) ∷ (56, 628) ∷ (57, 246) ∷ (58, 247) ∷ (59, 248) ∷ (60, 249) ∷ (61, 250) ∷ (63, 251) ∷
+    (99, 252) ∷ [])
     []
 
 -- after ProgramText ^let ^fun Variable Interface ^[ ^( IUnion' ')
-abbrev pub state_514 : Row
-state_514 = at
-    ((233, 3, 146423283176349499549) ∷ [])
+abbrev pub state_535 : Row
+state_535 = at
+    ((241, 3, 9370954997776395272349) ∷ [])
     []
     []
     []
-    ((233, 146423283176349499549) ∷ [])
+    ((241, 9370954997776395272349) ∷ [])
 
 -- after ProgramText ^let ^fun Variable Interface ^[ ^( IUnion' 'where
-abbrev pub state_515 : Row
-state_515 = at
-    ((243, 2, 8590196736) ∷ [])
-    ((50, begin_at 1 243 2 4503608217567232) ∷ (51, begin_at 2 133 0 4503608217567232) ∷ [])
-    ((65, (0, 483)) ∷ [])
-    ((50, 606) ∷ (51, 482) ∷ [])
+abbrev pub state_536 : Row
+state_536 = at
+    ((251, 2, 17180393472) ∷ [])
+    ((52, begin_at 1 251 2 18014415689875456) ∷ (53, begin_at 2 137 0 18014415689875456) ∷ [])
+    ((71, (0, 504)) ∷ [])
+    ((52, 629) ∷ (53, 503) ∷ [])
     []
 
 -- after ProgramText ^let ^fun Variable Interface ^[ ^( IAlts' '|
-abbrev pub state_516 : Row
-state_516 = at
-    ((215, 2, 2147745792) ∷ (250, 2, 2251810551365760) ∷ [])
-    ((61, begin_at 3 232 0 146423283176348450973) ∷ (76, begin_at 3 223 0 146421031362576121885) ∷
-    (79, begin_at 1 215 2 2147745792) ∷ (80, begin_at 2 219 0 146421031362106359809) ∷
-    (81, begin_at 2 218 0 146421031362106359809) ∷ (82, begin_at 1 250 2 146423283170979741853) ∷
-    (83, begin_at 2 227 0 146423283176348450973) ∷ (84, begin_at 2 226 0 146423283176348450973) ∷
-    (85, begin_at 3 234 0 146423283176348450973) ∷ (95, begin_at 4 282 0 146423283176348450973) ∷
+abbrev pub state_537 : Row
+state_537 = at
+    ((223, 2, 4295491584) ∷ (258, 2, 9007220730101888) ∷ [])
+    ((63, begin_at 3 240 0 9370954997776393175197) ∷ (80, begin_at 3 231 0 9370945990549221146653) ∷
+    (83, begin_at 1 223 2 4295491584) ∷ (84, begin_at 2 227 0 9370945990548281622529) ∷
+    (85, begin_at 2 226 0 9370945990548281622529) ∷ (86, begin_at 1 258 2 9370954997765655756957) ∷
+    (87, begin_at 2 235 0 9370954997776393175197) ∷ (88, begin_at 2 234 0 9370954997776393175197) ∷
+    (89, begin_at 3 242 0 9370954997776393175197) ∷ (99, begin_at 4 294 0 9370954997776393175197) ∷
     [])
-    ((0, (0, 247)) ∷ (17, (1, 293)) ∷ (19, (1, 249)) ∷ (21, (1, 250)) ∷ (23, (1, 251)) ∷
-    (38, (0, 253)) ∷ (60, (0, 254)) ∷ (61, (0, 255)) ∷ (62, (0, 295)) ∷ (63, (0, 256)) ∷
-    (64, (0, 257)) ∷ (65, (0, 258)) ∷ (66, (0, 596)) ∷ [])
-    ((61, 280) ∷ (76, 379) ∷ (79, 607) ∷ (80, 383) ∷ (81, 384) ∷ (82, 608) ∷ (83, 289) ∷ (84, 290) ∷
-    (85, 291) ∷ (95, 292) ∷ [])
+    ((0, (0, 259)) ∷ (18, (1, 305)) ∷ (20, (1, 261)) ∷ (22, (1, 262)) ∷ (24, (1, 263)) ∷
+    (40, (0, 265)) ∷ (66, (0, 266)) ∷ (67, (0, 267)) ∷ (68, (0, 307)) ∷ (69, (0, 268)) ∷
+    (70, (0, 269)) ∷ (71, (0, 270)) ∷ (72, (0, 619)) ∷ [])
+    ((63, 292) ∷ (80, 394) ∷ (83, 630) ∷ (84, 398) ∷ (85, 399) ∷ (86, 631) ∷ (87, 301) ∷ (88, 302) ∷
+    (89, 303) ∷ (99, 304) ∷ [])
     []
 
 -- after ProgramText ^let ^fun Variable Interface ^[ ^( Variable ^::
-abbrev pub state_517 : Row
-state_517 = at
-    ((290, 2, 146421031362106359809) ∷ [])
-    ((61, begin_at 5 232 0 146421031367944831005) ∷ (74, begin_at 1 290 2 146421031362106359809) ∷
-    (75, begin_at 2 204 0 146421031362576121885) ∷ (76, begin_at 3 207 0 146421031362576121885) ∷
-    (82, begin_at 3 206 0 146421031362576121885) ∷ (83, begin_at 4 227 0 146421031367944831005) ∷
-    (84, begin_at 4 226 0 146421031367944831005) ∷ (85, begin_at 5 234 0 146421031367944831005) ∷
-    (95, begin_at 6 282 0 146421031367944831005) ∷ [])
-    ((0, (0, 247)) ∷ (17, (1, 293)) ∷ (19, (1, 249)) ∷ (21, (1, 250)) ∷ (23, (1, 251)) ∷
-    (38, (0, 253)) ∷ (60, (0, 254)) ∷ (61, (0, 255)) ∷ (62, (0, 295)) ∷ (63, (0, 256)) ∷
-    (64, (0, 257)) ∷ (65, (0, 258)) ∷ (66, (0, 296)) ∷ [])
-    ((61, 280) ∷ (74, 609) ∷ (75, 286) ∷ (76, 287) ∷ (82, 288) ∷ (83, 289) ∷ (84, 290) ∷ (85, 291) ∷
-    (95, 292) ∷ [])
+abbrev pub state_538 : Row
+state_538 = at
+    ((302, 2, 9370945990548281622529) ∷ [])
+    ((63, begin_at 5 240 0 9370945990559958564893) ∷ (78, begin_at 1 302 2 9370945990548281622529) ∷
+    (79, begin_at 2 212 0 9370945990549221146653) ∷ (80, begin_at 3 215 0 9370945990549221146653) ∷
+    (86, begin_at 3 214 0 9370945990549221146653) ∷ (87, begin_at 4 235 0 9370945990559958564893) ∷
+    (88, begin_at 4 234 0 9370945990559958564893) ∷ (89, begin_at 5 242 0 9370945990559958564893) ∷
+    (99, begin_at 6 294 0 9370945990559958564893) ∷ [])
+    ((0, (0, 259)) ∷ (18, (1, 305)) ∷ (20, (1, 261)) ∷ (22, (1, 262)) ∷ (24, (1, 263)) ∷
+    (40, (0, 265)) ∷ (66, (0, 266)) ∷ (67, (0, 267)) ∷ (68, (0, 307)) ∷ (69, (0, 268)) ∷
+    (70, (0, 269)) ∷ (71, (0, 270)) ∷ (72, (0, 308)) ∷ [])
+    ((63, 292) ∷ (78, 632) ∷ (79, 298) ∷ (80, 299) ∷ (86, 300) ∷ (87, 301) ∷ (88, 302) ∷ (89, 303) ∷
+    (99, 304) ∷ [])
     []
 
 -- after ProgramText ^let ^fun Variable Interface ^[ Variable ^:: RPost'
-abbrev pub state_518 : Row
-state_518 = at
-    ((289, 3, 146421031362107408385) ∷ [])
+abbrev pub state_539 : Row
+state_539 = at
+    ((301, 3, 9370945990548283719681) ∷ [])
     []
     []
     []
-    ((289, 146421031362107408385) ∷ [])
+    ((301, 9370945990548283719681) ∷ [])
+
+-- after ProgramText ^let ^fun Variable Interface ^{ FieldList' '; Others'
+abbrev pub state_540 : Row
+state_540 = at
+    ((180, 3, 8388608) ∷ [])
+    []
+    []
+    []
+    ((180, 8388608) ∷ [])
 
 -- after ProgramText ^let ^fun Variable Interface ^{ FieldList' '; Field'
-abbrev pub state_519 : Row
-state_519 = at
-    ((178, 3, 17184064512) ∷ [])
+abbrev pub state_541 : Row
+state_541 = at
+    ((184, 3, 1133879755776) ∷ [])
     []
     []
     []
-    ((178, 17184064512) ∷ [])
-
--- after ProgramText ^let ^fun Variable Interface ^{ FieldList' '; '..
-abbrev pub state_520 : Row
-state_520 = at
-    ((176, 3, 4194304) ∷ [])
-    []
-    []
-    []
-    ((176, 4194304) ∷ [])
+    ((184, 1133879755776) ∷ [])
 
 -- after ProgramText ^let ^fun Variable Interface ^{ Label '=? Tree'
-abbrev pub state_521 : Row
-state_521 = at
-    ((180, 3, 17184064512) ∷ [])
+abbrev pub state_542 : Row
+state_542 = at
+    ((186, 3, 1133879755776) ∷ [])
     []
     []
     []
-    ((180, 17184064512) ∷ [])
+    ((186, 1133879755776) ∷ [])
 
 -- after ProgramText ^let ^fun Variable Interface ^{ Label '= Tree'
-abbrev pub state_522 : Row
-state_522 = at
-    ((179, 3, 17184064512) ∷ [])
+abbrev pub state_543 : Row
+state_543 = at
+    ((185, 3, 1133879755776) ∷ [])
     []
     []
     []
-    ((179, 17184064512) ∷ [])
+    ((185, 1133879755776) ∷ [])
+
+-- after ProgramText ^let ^fun Variable Interface ^{ '_ '=? Tree'
+abbrev pub state_544 : Row
+state_544 = at
+    ((182, 3, 8388608) ∷ [])
+    []
+    []
+    []
+    ((182, 8388608) ∷ [])
 
 -- after ProgramText ^let ^fun Variable Interface ^< Tag' Attrs' '>
-abbrev pub state_523 : Row
-state_523 = at
-    ((171, 4, 147573952348621243549) ∷ [])
-    ((58, begin_at 1 171 4 147573952348621243549) ∷ (59, begin_at 2 151 0 147573952348621243549) ∷
-    (61, begin_at 2 150 0 147573952348621243549) ∷ (95, begin_at 3 281 0 147573952348621243549) ∷
+abbrev pub state_545 : Row
+state_545 = at
+    ((175, 4, 9444732964707424273565) ∷ [])
+    ((60, begin_at 1 175 4 9444732964707424273565) ∷ (61, begin_at 2 155 0 9444732964707424273565) ∷
+    (63, begin_at 2 154 0 9444732964707424273565) ∷ (99, begin_at 3 293 0 9444732964707424273565) ∷
     [])
-    ((0, (0, 247)) ∷ (17, (1, 248)) ∷ (19, (1, 249)) ∷ (21, (1, 250)) ∷ (23, (1, 251)) ∷
-    (38, (0, 253)) ∷ (60, (0, 254)) ∷ (61, (0, 255)) ∷ (63, (0, 256)) ∷ (64, (0, 257)) ∷
-    (65, (0, 258)) ∷ (66, (0, 259)) ∷ [])
-    ((58, 610) ∷ (59, 238) ∷ (61, 239) ∷ (95, 240) ∷ [])
+    ((0, (0, 259)) ∷ (18, (1, 260)) ∷ (20, (1, 261)) ∷ (22, (1, 262)) ∷ (24, (1, 263)) ∷
+    (40, (0, 265)) ∷ (66, (0, 266)) ∷ (67, (0, 267)) ∷ (69, (0, 268)) ∷ (70, (0, 269)) ∷
+    (71, (0, 270)) ∷ (72, (0, 271)) ∷ [])
+    ((60, 633) ∷ (61, 250) ∷ (63, 251) ∷ (99, 252) ∷ [])
     []
+
+-- after ProgramText ^let ^fun Variable Interface ^< Tag' AttrList' AttrOthers'
+abbrev pub state_546 : Row
+state_546 = at
+    ((195, 2, 33554432) ∷ [])
+    []
+    []
+    []
+    ((195, 33554432) ∷ [])
 
 -- after ProgramText ^let ^fun Variable Interface ^< Tag' AttrList' Attr'
-abbrev pub state_524 : Row
-state_524 = at
-    ((192, 2, 111833385414304990208) ∷ [])
+abbrev pub state_547 : Row
+state_547 = at
+    ((200, 2, 7157336699534187693056) ∷ [])
     []
     []
     []
-    ((192, 111833385414304990208) ∷ [])
-
--- after ProgramText ^let ^fun Variable Interface ^< Tag' AttrList' '..
-abbrev pub state_525 : Row
-state_525 = at
-    ((189, 2, 16777216) ∷ [])
-    []
-    []
-    []
-    ((189, 16777216) ∷ [])
+    ((200, 7157336699534187693056) ∷ [])
 
 -- after ProgramText ^let ^fun Variable Interface ^< Tag' AttrList' ';
-abbrev pub state_526 : Row
-state_526 = at
-    ((187, 2, 16777216) ∷ (190, 2, 16777216) ∷ (193, 2, 111833385414304990208) ∷ [])
-    ((69, begin_at 1 193 2 111833385414304990208) ∷ (94, begin_at 2 194 0 33554464) ∷ [])
-    ((10, (0, 612)) ∷ (39, (0, 67)) ∷ (40, (0, 68)) ∷ (41, (0, 69)) ∷ (42, (0, 70)) ∷
-    (43, (0, 71)) ∷ (44, (0, 72)) ∷ (45, (0, 73)) ∷ (46, (0, 74)) ∷ (47, (0, 75)) ∷ (48, (0, 76)) ∷
-    (49, (0, 77)) ∷ (50, (0, 78)) ∷ (51, (0, 79)) ∷ (52, (0, 80)) ∷ (53, (0, 81)) ∷ (54, (0, 82)) ∷
-    (55, (0, 83)) ∷ (56, (0, 84)) ∷ (57, (0, 85)) ∷ (58, (0, 86)) ∷ (59, (0, 87)) ∷ (65, (0, 88)) ∷
-    (66, (0, 89)) ∷ [])
-    ((69, 611) ∷ (94, 404) ∷ [])
-    ((187, 16777216) ∷ [])
+abbrev pub state_548 : Row
+state_548 = at
+    ((193, 2, 33554432) ∷ (196, 2, 33554432) ∷ (201, 2, 7157336699534187693056) ∷ [])
+    ((71, begin_at 1 196 2 33554432) ∷ (73, begin_at 1 201 2 7157336699534187693056) ∷
+    (98, begin_at 2 202 0 67108896) ∷ [])
+    ((10, (0, 422)) ∷ (40, (0, 425)) ∷ (41, (0, 69)) ∷ (42, (0, 70)) ∷ (43, (0, 71)) ∷
+    (44, (0, 72)) ∷ (45, (0, 73)) ∷ (46, (0, 74)) ∷ (47, (0, 75)) ∷ (48, (0, 76)) ∷ (49, (0, 77)) ∷
+    (50, (0, 78)) ∷ (51, (0, 79)) ∷ (52, (0, 80)) ∷ (53, (0, 81)) ∷ (54, (0, 82)) ∷ (55, (0, 83)) ∷
+    (56, (0, 84)) ∷ (57, (0, 85)) ∷ (58, (0, 86)) ∷ (59, (0, 87)) ∷ (60, (0, 88)) ∷ (61, (0, 89)) ∷
+    (62, (0, 90)) ∷ (63, (0, 91)) ∷ (64, (0, 92)) ∷ (65, (0, 93)) ∷ (71, (0, 94)) ∷ (72, (0, 95)) ∷
+    [])
+    ((71, 634) ∷ (73, 635) ∷ (98, 421) ∷ [])
+    ((193, 33554432) ∷ [])
 
 -- after ProgramText ^let ^fun Variable Interface ^< Tag' Label '=?
-abbrev pub state_527 : Row
-state_527 = at
-    ((195, 2, 111833385414304990208) ∷ [])
-    ((58, begin_at 1 195 2 111833385414304990208) ∷ (59, begin_at 2 151 0 111833385414304990208) ∷
-    (61, begin_at 2 150 0 111833385414304990208) ∷ (95, begin_at 3 281 0 111833385414304990208) ∷
+abbrev pub state_549 : Row
+state_549 = at
+    ((203, 2, 7157336699534187693056) ∷ [])
+    ((60, begin_at 1 203 2 7157336699534187693056) ∷ (61, begin_at 2 155 0 7157336699534187693056) ∷
+    (63, begin_at 2 154 0 7157336699534187693056) ∷ (99, begin_at 3 293 0 7157336699534187693056) ∷
     [])
-    ((0, (0, 247)) ∷ (17, (1, 248)) ∷ (19, (1, 249)) ∷ (21, (1, 250)) ∷ (23, (1, 251)) ∷
-    (38, (0, 253)) ∷ (60, (0, 254)) ∷ (61, (0, 255)) ∷ (63, (0, 256)) ∷ (64, (0, 257)) ∷
-    (65, (0, 258)) ∷ (66, (0, 259)) ∷ [])
-    ((58, 613) ∷ (59, 238) ∷ (61, 239) ∷ (95, 240) ∷ [])
+    ((0, (0, 259)) ∷ (18, (1, 260)) ∷ (20, (1, 261)) ∷ (22, (1, 262)) ∷ (24, (1, 263)) ∷
+    (40, (0, 265)) ∷ (66, (0, 266)) ∷ (67, (0, 267)) ∷ (69, (0, 268)) ∷ (70, (0, 269)) ∷
+    (71, (0, 270)) ∷ (72, (0, 271)) ∷ [])
+    ((60, 636) ∷ (61, 250) ∷ (63, 251) ∷ (99, 252) ∷ [])
     []
 
 -- after ProgramText ^let ^fun Variable Interface ^< Tag' Label '=
-abbrev pub state_528 : Row
-state_528 = at
-    ((194, 2, 111833385414304990208) ∷ [])
-    ((58, begin_at 1 194 2 111833385414304990208) ∷ (59, begin_at 2 151 0 111833385414304990208) ∷
-    (61, begin_at 2 150 0 111833385414304990208) ∷ (95, begin_at 3 281 0 111833385414304990208) ∷
+abbrev pub state_550 : Row
+state_550 = at
+    ((202, 2, 7157336699534187693056) ∷ [])
+    ((60, begin_at 1 202 2 7157336699534187693056) ∷ (61, begin_at 2 155 0 7157336699534187693056) ∷
+    (63, begin_at 2 154 0 7157336699534187693056) ∷ (99, begin_at 3 293 0 7157336699534187693056) ∷
     [])
-    ((0, (0, 247)) ∷ (17, (1, 248)) ∷ (19, (1, 249)) ∷ (21, (1, 250)) ∷ (23, (1, 251)) ∷
-    (38, (0, 253)) ∷ (60, (0, 254)) ∷ (61, (0, 255)) ∷ (63, (0, 256)) ∷ (64, (0, 257)) ∷
-    (65, (0, 258)) ∷ (66, (0, 259)) ∷ [])
-    ((58, 614) ∷ (59, 238) ∷ (61, 239) ∷ (95, 240) ∷ [])
+    ((0, (0, 259)) ∷ (18, (1, 260)) ∷ (20, (1, 261)) ∷ (22, (1, 262)) ∷ (24, (1, 263)) ∷
+    (40, (0, 265)) ∷ (66, (0, 266)) ∷ (67, (0, 267)) ∷ (69, (0, 268)) ∷ (70, (0, 269)) ∷
+    (71, (0, 270)) ∷ (72, (0, 271)) ∷ [])
+    ((60, 637) ∷ (61, 250) ∷ (63, 251) ∷ (99, 252) ∷ [])
     []
 
 -- after ProgramText ^let ^fun Variable Interface ^< Tag' ^( Tree'
-abbrev pub state_529 : Row
-state_529 = at
-    ((185, 2, 16777216) ∷ [])
+abbrev pub state_551 : Row
+state_551 = at
+    ((191, 2, 33554432) ∷ [])
     []
-    ((18, (0, 615)) ∷ [])
+    ((19, (0, 638)) ∷ [])
     []
     []
 
 -- after ProgramText ^let ^fun Variable Interface ^< Tag' '> Simple'
-abbrev pub state_530 : Row
-state_530 = at
-    ((170, 4, 147573952348621243549) ∷ [])
-    []
-    []
-    []
-    ((170, 147573952348621243549) ∷ [])
-
--- after ProgramText ^let ^fun Variable Interface ^< ^( Tree' ')
-abbrev pub state_531 : Row
-state_531 = at
-    ((183, 3, 111833385397125252096) ∷ [])
-    []
-    []
-    []
-    ((183, 111833385397125252096) ∷ [])
-
--- after ProgramText ^let ^fun Variable Interface Union' ^-> Ors '|| And
-abbrev pub state_532 : Row
-state_532 = at
-    ((326, 3, 1180591855491065675776) ∷ [])
-    []
-    []
-    []
-    ((326, 1180591855491065675776) ∷ [])
-
--- after ProgramText ^let ^fun Variable Interface Union' ^-> And '|| And
-abbrev pub state_533 : Row
-state_533 = at
-    ((325, 3, 1180591855491065675776) ∷ [])
-    []
-    []
-    []
-    ((325, 1180591855491065675776) ∷ [])
-
--- after ProgramText ^let ^fun Variable Interface Union' ^-> Ands '&& Cmp
-abbrev pub state_534 : Row
-state_534 = at
-    ((330, 3, 1180591855491065692160) ∷ [])
-    []
-    []
-    []
-    ((330, 1180591855491065692160) ∷ [])
-
--- after ProgramText ^let ^fun Variable Interface Union' ^-> Cmp '&& Cmp
-abbrev pub state_535 : Row
-state_535 = at
-    ((329, 3, 1180591855491065692160) ∷ [])
-    []
-    []
-    []
-    ((329, 1180591855491065692160) ∷ [])
-
--- after ProgramText ^let ^fun Variable Interface Union' ^-> Cat '!= Cat
-abbrev pub state_536 : Row
-state_536 = at
-    ((334, 3, 1180591855491065692160) ∷ [])
-    []
-    []
-    []
-    ((334, 1180591855491065692160) ∷ [])
-
--- after ProgramText ^let ^fun Variable Interface Union' ^-> Cat '<= Cat
-abbrev pub state_537 : Row
-state_537 = at
-    ((336, 3, 1180591855491065692160) ∷ [])
-    []
-    []
-    []
-    ((336, 1180591855491065692160) ∷ [])
-
--- after ProgramText ^let ^fun Variable Interface Union' ^-> Cat '>= Cat
-abbrev pub state_538 : Row
-state_538 = at
-    ((338, 3, 1180591855491065692160) ∷ [])
-    []
-    []
-    []
-    ((338, 1180591855491065692160) ∷ [])
-
--- after ProgramText ^let ^fun Variable Interface Union' ^-> Cat '< Cat
-abbrev pub state_539 : Row
-state_539 = at
-    ((335, 3, 1180591855491065692160) ∷ [])
-    []
-    []
-    []
-    ((335, 1180591855491065692160) ∷ [])
-
--- after ProgramText ^let ^fun Variable Interface Union' ^-> Cat '> Cat
-abbrev pub state_540 : Row
-state_540 = at
-    ((337, 3, 1180591855491065692160) ∷ [])
-    []
-    []
-    []
-    ((337, 1180591855491065692160) ∷ [])
-
--- after ProgramText ^let ^fun Variable Interface Union' ^-> Cat '= Cat
-abbrev pub state_541 : Row
-state_541 = at
-    ((333, 3, 1180591855491065692160) ∷ [])
-    []
-    []
-    []
-    ((333, 1180591855491065692160) ∷ [])
-
--- after ProgramText ^let ^fun Variable Interface Union' ^-> Cats '@ Sum
-abbrev pub state_542 : Row
-state_542 = at
-    ((342, 3, 1180591855628563380224) ∷ [])
-    []
-    []
-    []
-    ((342, 1180591855628563380224) ∷ [])
-
--- after ProgramText ^let ^fun Variable Interface Union' ^-> Sum '@ Sum
-abbrev pub state_543 : Row
-state_543 = at
-    ((341, 3, 1180591855628563380224) ∷ [])
-    []
-    []
-    []
-    ((341, 1180591855628563380224) ∷ [])
-
--- after ProgramText ^let ^fun Variable Interface Union' ^-> Sums '+ Prod
-abbrev pub state_544 : Row
-state_544 = at
-    ((348, 3, 1180591855630442428416) ∷ [])
-    []
-    []
-    []
-    ((348, 1180591855630442428416) ∷ [])
-
--- after ProgramText ^let ^fun Variable Interface Union' ^-> Sums '- Prod
-abbrev pub state_545 : Row
-state_545 = at
-    ((349, 3, 1180591855630442428416) ∷ [])
-    []
-    []
-    []
-    ((349, 1180591855630442428416) ∷ [])
-
--- after ProgramText ^let ^fun Variable Interface Union' ^-> Sums '\ Label
-abbrev pub state_546 : Row
-state_546 = at
-    ((350, 3, 1180591855630442428416) ∷ [])
-    []
-    []
-    []
-    ((350, 1180591855630442428416) ∷ [])
-
--- after ProgramText ^let ^fun Variable Interface Union' ^-> Prod '+ Prod
-abbrev pub state_547 : Row
-state_547 = at
-    ((345, 3, 1180591855630442428416) ∷ [])
-    []
-    []
-    []
-    ((345, 1180591855630442428416) ∷ [])
-
--- after ProgramText ^let ^fun Variable Interface Union' ^-> Prod '- Prod
-abbrev pub state_548 : Row
-state_548 = at
-    ((346, 3, 1180591855630442428416) ∷ [])
-    []
-    []
-    []
-    ((346, 1180591855630442428416) ∷ [])
-
--- after ProgramText ^let ^fun Variable Interface Union' ^-> Prod '\ Label
-abbrev pub state_549 : Row
-state_549 = at
-    ((347, 3, 1180591855630442428416) ∷ [])
-    []
-    []
-    []
-    ((347, 1180591855630442428416) ∷ [])
-
--- after ProgramText ^let ^fun Variable Interface Union' ^-> Prods '* App
-abbrev pub state_550 : Row
-state_550 = at
-    ((356, 3, 1180618877228340869120) ∷ [])
-    []
-    []
-    []
-    ((356, 1180618877228340869120) ∷ [])
-
--- after ProgramText ^let ^fun Variable Interface Union' ^-> Prods 'div App
-abbrev pub state_551 : Row
-state_551 = at
-    ((357, 3, 1180618877228340869120) ∷ [])
-    []
-    []
-    []
-    ((357, 1180618877228340869120) ∷ [])
-
--- after ProgramText ^let ^fun Variable Interface Union' ^-> Prods 'mod App
 abbrev pub state_552 : Row
 state_552 = at
-    ((358, 3, 1180618877228340869120) ∷ [])
+    ((174, 4, 9444732964707424273565) ∷ [])
     []
     []
     []
-    ((358, 1180618877228340869120) ∷ [])
+    ((174, 9444732964707424273565) ∷ [])
 
--- after ProgramText ^let ^fun Variable Interface Union' ^-> App '* App
+-- after ProgramText ^let ^fun Variable Interface ^< Tag' '_ '=?
 abbrev pub state_553 : Row
 state_553 = at
-    ((353, 3, 1180618877228340869120) ∷ [])
+    ((198, 2, 33554432) ∷ [])
+    ((60, begin_at 1 198 2 33554432) ∷ (61, begin_at 2 155 0 33554432) ∷
+    (63, begin_at 2 154 0 33554432) ∷ (99, begin_at 3 293 0 33554432) ∷ [])
+    ((0, (0, 259)) ∷ (18, (1, 260)) ∷ (20, (1, 261)) ∷ (22, (1, 262)) ∷ (24, (1, 263)) ∷
+    (40, (0, 265)) ∷ (66, (0, 266)) ∷ (67, (0, 267)) ∷ (69, (0, 268)) ∷ (70, (0, 269)) ∷
+    (71, (0, 270)) ∷ (72, (0, 271)) ∷ [])
+    ((60, 639) ∷ (61, 250) ∷ (63, 251) ∷ (99, 252) ∷ [])
     []
-    []
-    []
-    ((353, 1180618877228340869120) ∷ [])
 
--- after ProgramText ^let ^fun Variable Interface Union' ^-> App 'div App
+-- after ProgramText ^let ^fun Variable Interface ^< ^( Tree' ')
 abbrev pub state_554 : Row
 state_554 = at
-    ((354, 3, 1180618877228340869120) ∷ [])
+    ((189, 3, 7157336699499828216832) ∷ [])
     []
     []
     []
-    ((354, 1180618877228340869120) ∷ [])
+    ((189, 7157336699499828216832) ∷ [])
 
--- after ProgramText ^let ^fun Variable Interface Union' ^-> App 'mod App
+-- after ProgramText ^let ^fun Variable Interface Union' ^-> Ors '|| And
 abbrev pub state_555 : Row
 state_555 = at
-    ((355, 3, 1180618877228340869120) ∷ [])
+    ((338, 3, 75594767160299770970112) ∷ [])
     []
     []
     []
-    ((355, 1180618877228340869120) ∷ [])
+    ((338, 75594767160299770970112) ∷ [])
 
--- after ProgramText ^let ^fun Variable Interface Union' ^-> Posts NSelects '.
+-- after ProgramText ^let ^fun Variable Interface Union' ^-> And '|| And
 abbrev pub state_556 : Row
 state_556 = at
-    ((375, 2, 1285534734181926434816) ∷ [])
-    ((94, begin_at 1 375 2 1285534734181926434816) ∷ [])
-    ((39, (0, 67)) ∷ (40, (0, 68)) ∷ (41, (0, 69)) ∷ (42, (0, 70)) ∷ (43, (0, 71)) ∷ (44, (0, 72)) ∷
-    (45, (0, 73)) ∷ (46, (0, 74)) ∷ (47, (0, 75)) ∷ (48, (0, 76)) ∷ (49, (0, 77)) ∷ (50, (0, 78)) ∷
-    (51, (0, 79)) ∷ (52, (0, 80)) ∷ (53, (0, 81)) ∷ (54, (0, 82)) ∷ (55, (0, 83)) ∷ (56, (0, 84)) ∷
-    (57, (0, 85)) ∷ (58, (0, 86)) ∷ (59, (0, 87)) ∷ (65, (0, 88)) ∷ (66, (0, 89)) ∷ [])
-    ((94, 616) ∷ [])
+    ((337, 3, 75594767160299770970112) ∷ [])
     []
+    []
+    []
+    ((337, 75594767160299770970112) ∷ [])
 
--- after ProgramText ^let ^fun Variable Interface Union' ^-> Posts NBase '.
+-- after ProgramText ^let ^fun Variable Interface Union' ^-> Ands '&& Cmp
 abbrev pub state_557 : Row
 state_557 = at
-    ((374, 2, 1285534734181926434816) ∷ [])
-    ((94, begin_at 1 374 2 1285534734181926434816) ∷ [])
-    ((39, (0, 67)) ∷ (40, (0, 68)) ∷ (41, (0, 69)) ∷ (42, (0, 70)) ∷ (43, (0, 71)) ∷ (44, (0, 72)) ∷
-    (45, (0, 73)) ∷ (46, (0, 74)) ∷ (47, (0, 75)) ∷ (48, (0, 76)) ∷ (49, (0, 77)) ∷ (50, (0, 78)) ∷
-    (51, (0, 79)) ∷ (52, (0, 80)) ∷ (53, (0, 81)) ∷ (54, (0, 82)) ∷ (55, (0, 83)) ∷ (56, (0, 84)) ∷
-    (57, (0, 85)) ∷ (58, (0, 86)) ∷ (59, (0, 87)) ∷ (65, (0, 88)) ∷ (66, (0, 89)) ∷ [])
-    ((94, 617) ∷ [])
+    ((342, 3, 75594767160299770986496) ∷ [])
     []
+    []
+    []
+    ((342, 75594767160299770986496) ∷ [])
 
--- after ProgramText ^let ^fun Variable Interface Union' ^-> Selects '. Label
+-- after ProgramText ^let ^fun Variable Interface Union' ^-> Cmp '&& Cmp
 abbrev pub state_558 : Row
 state_558 = at
-    ((371, 3, 1328165573027847731200) ∷ [])
+    ((341, 3, 75594767160299770986496) ∷ [])
     []
     []
     []
-    ((371, 1328165573027847731200) ∷ [])
+    ((341, 75594767160299770986496) ∷ [])
 
--- after ProgramText ^let ^fun Variable Interface Union' ^-> Base '. Label
+-- after ProgramText ^let ^fun Variable Interface Union' ^-> Cat '!= Cat
 abbrev pub state_559 : Row
 state_559 = at
-    ((370, 3, 1328165573027847731200) ∷ [])
+    ((346, 3, 75594767160299770986496) ∷ [])
     []
     []
     []
-    ((370, 1328165573027847731200) ∷ [])
+    ((346, 75594767160299770986496) ∷ [])
 
--- after ProgramText ^let ^fun Variable Interface Union' ^-> ^( Expr ')
+-- after ProgramText ^let ^fun Variable Interface Union' ^-> Cat '<= Cat
 abbrev pub state_560 : Row
 state_560 = at
-    ((391, 3, 1328165573027847731200) ∷ [])
+    ((348, 3, 75594767160299770986496) ∷ [])
     []
     []
     []
-    ((391, 1328165573027847731200) ∷ [])
+    ((348, 75594767160299770986496) ∷ [])
 
--- after ProgramText ^let ^fun Variable Interface Union' ^-> ^( Expr ',
+-- after ProgramText ^let ^fun Variable Interface Union' ^-> Cat '>= Cat
 abbrev pub state_561 : Row
 state_561 = at
-    ((397, 2, 8590196736) ∷ [])
-    ((109, begin_at 1 397 2 8590196736) ∷ (111, begin_at 2 319 0 8590196736) ∷
-    (112, begin_at 3 324 0 8590229504) ∷ (113, begin_at 3 323 0 8590229504) ∷
-    (114, begin_at 4 328 0 8590245888) ∷ (115, begin_at 4 327 0 8590245888) ∷
-    (116, begin_at 5 332 0 8590245888) ∷ (117, begin_at 5 331 0 8648980480) ∷
-    (118, begin_at 6 340 0 146087933952) ∷ (119, begin_at 6 339 0 146087933952) ∷
-    (120, begin_at 7 344 0 147966982144) ∷ (121, begin_at 7 343 0 147966982144) ∷
-    (122, begin_at 8 352 0 27021745865422848) ∷ (123, begin_at 8 351 0 27021745865422848) ∷
-    (124, begin_at 9 365 0 104942878665091250176) ∷ (125, begin_at 9 364 0 104942878665091250176) ∷
-    (126, begin_at 10 369 0 104942878699450988544) ∷
-    (131, begin_at 10 368 0 104942878699450988544) ∷
-    (133, begin_at 11 381 0 104942878699450988544) ∷
-    (134, begin_at 12 384 0 104942878699450988544) ∷ [])
-    ((17, (1, 335)) ∷ (19, (1, 336)) ∷ (21, (1, 337)) ∷ (23, (1, 338)) ∷ (40, (1, 448)) ∷
-    (41, (1, 340)) ∷ (43, (1, 341)) ∷ (45, (1, 449)) ∷ (48, (1, 343)) ∷ (49, (1, 344)) ∷
-    (50, (1, 345)) ∷ (55, (0, 346)) ∷ (56, (0, 347)) ∷ (57, (0, 348)) ∷ (58, (0, 349)) ∷
-    (59, (0, 350)) ∷ (60, (0, 351)) ∷ (61, (0, 352)) ∷ (63, (0, 353)) ∷ (64, (0, 354)) ∷
-    (66, (0, 355)) ∷ [])
-    ((109, 618) ∷ (111, 446) ∷ (112, 317) ∷ (113, 318) ∷ (114, 319) ∷ (115, 320) ∷ (116, 321) ∷
-    (117, 322) ∷ (118, 323) ∷ (119, 324) ∷ (120, 325) ∷ (121, 326) ∷ (122, 327) ∷ (123, 328) ∷
-    (124, 329) ∷ (125, 330) ∷ (126, 331) ∷ (131, 332) ∷ (133, 333) ∷ (134, 334) ∷ [])
+    ((350, 3, 75594767160299770986496) ∷ [])
+    []
+    []
+    []
+    ((350, 75594767160299770986496) ∷ [])
+
+-- after ProgramText ^let ^fun Variable Interface Union' ^-> Cat '< Cat
+abbrev pub state_562 : Row
+state_562 = at
+    ((347, 3, 75594767160299770986496) ∷ [])
+    []
+    []
+    []
+    ((347, 75594767160299770986496) ∷ [])
+
+-- after ProgramText ^let ^fun Variable Interface Union' ^-> Cat '> Cat
+abbrev pub state_563 : Row
+state_563 = at
+    ((349, 3, 75594767160299770986496) ∷ [])
+    []
+    []
+    []
+    ((349, 75594767160299770986496) ∷ [])
+
+-- after ProgramText ^let ^fun Variable Interface Union' ^-> Cat '= Cat
+abbrev pub state_564 : Row
+state_564 = at
+    ((345, 3, 75594767160299770986496) ∷ [])
+    []
+    []
+    []
+    ((345, 75594767160299770986496) ∷ [])
+
+-- after ProgramText ^let ^fun Variable Interface Union' ^-> Cats '@ Sum
+abbrev pub state_565 : Row
+state_565 = at
+    ((354, 3, 75594767160849644255232) ∷ [])
+    []
+    []
+    []
+    ((354, 75594767160849644255232) ∷ [])
+
+-- after ProgramText ^let ^fun Variable Interface Union' ^-> Sum '@ Sum
+abbrev pub state_566 : Row
+state_566 = at
+    ((353, 3, 75594767160849644255232) ∷ [])
+    []
+    []
+    []
+    ((353, 75594767160849644255232) ∷ [])
+
+-- after ProgramText ^let ^fun Variable Interface Union' ^-> Sums '+ Prod
+abbrev pub state_567 : Row
+state_567 = at
+    ((360, 3, 75594767160853402351616) ∷ [])
+    []
+    []
+    []
+    ((360, 75594767160853402351616) ∷ [])
+
+-- after ProgramText ^let ^fun Variable Interface Union' ^-> Sums '- Prod
+abbrev pub state_568 : Row
+state_568 = at
+    ((361, 3, 75594767160853402351616) ∷ [])
+    []
+    []
+    []
+    ((361, 75594767160853402351616) ∷ [])
+
+-- after ProgramText ^let ^fun Variable Interface Union' ^-> Sums '\ Label
+abbrev pub state_569 : Row
+state_569 = at
+    ((362, 3, 75594767160853402351616) ∷ [])
+    []
+    []
+    []
+    ((362, 75594767160853402351616) ∷ [])
+
+-- after ProgramText ^let ^fun Variable Interface Union' ^-> Prod '+ Prod
+abbrev pub state_570 : Row
+state_570 = at
+    ((357, 3, 75594767160853402351616) ∷ [])
+    []
+    []
+    []
+    ((357, 75594767160853402351616) ∷ [])
+
+-- after ProgramText ^let ^fun Variable Interface Union' ^-> Prod '- Prod
+abbrev pub state_571 : Row
+state_571 = at
+    ((358, 3, 75594767160853402351616) ∷ [])
+    []
+    []
+    []
+    ((358, 75594767160853402351616) ∷ [])
+
+-- after ProgramText ^let ^fun Variable Interface Union' ^-> Prod '\ Label
+abbrev pub state_572 : Row
+state_572 = at
+    ((359, 3, 75594767160853402351616) ∷ [])
+    []
+    []
+    []
+    ((359, 75594767160853402351616) ∷ [])
+
+-- after ProgramText ^let ^fun Variable Interface Union' ^-> Prods '* App
+abbrev pub state_573 : Row
+state_573 = at
+    ((368, 3, 75594875247244727678976) ∷ [])
+    []
+    []
+    []
+    ((368, 75594875247244727678976) ∷ [])
+
+-- after ProgramText ^let ^fun Variable Interface Union' ^-> Prods 'div App
+abbrev pub state_574 : Row
+state_574 = at
+    ((369, 3, 75594875247244727678976) ∷ [])
+    []
+    []
+    []
+    ((369, 75594875247244727678976) ∷ [])
+
+-- after ProgramText ^let ^fun Variable Interface Union' ^-> Prods 'mod App
+abbrev pub state_575 : Row
+state_575 = at
+    ((370, 3, 75594875247244727678976) ∷ [])
+    []
+    []
+    []
+    ((370, 75594875247244727678976) ∷ [])
+
+-- after ProgramText ^let ^fun Variable Interface Union' ^-> App '* App
+abbrev pub state_576 : Row
+state_576 = at
+    ((365, 3, 75594875247244727678976) ∷ [])
+    []
+    []
+    []
+    ((365, 75594875247244727678976) ∷ [])
+
+-- after ProgramText ^let ^fun Variable Interface Union' ^-> App 'div App
+abbrev pub state_577 : Row
+state_577 = at
+    ((366, 3, 75594875247244727678976) ∷ [])
+    []
+    []
+    []
+    ((366, 75594875247244727678976) ∷ [])
+
+-- after ProgramText ^let ^fun Variable Interface Union' ^-> App 'mod App
+abbrev pub state_578 : Row
+state_578 = at
+    ((367, 3, 75594875247244727678976) ∷ [])
+    []
+    []
+    []
+    ((367, 75594875247244727678976) ∷ [])
+
+-- after ProgramText ^let ^fun Variable Interface Union' ^-> Posts NBase Steps
+abbrev pub state_579 : Row
+state_579 = at
+    ((385, 2, 82309490090075009972224) ∷ [])
+    []
+    []
+    []
+    ((385, 82309490090075009972224) ∷ [])
+
+-- after ProgramText ^let ^fun Variable Interface Union' ^-> Base ^/@ Label
+abbrev pub state_580 : Row
+state_580 = at
+    ((392, 2, 85002596690339219503104) ∷ (393, 2, 85002596690339219503104) ∷ [])
+    ((132, begin_at 1 393 2 85002596690339219503104) ∷ [])
+    ((17, (1, 461)) ∷ (36, (0, 462)) ∷ (37, (1, 463)) ∷ [])
+    ((132, 640) ∷ [])
+    ((392, 85002596690339219503104) ∷ [])
+
+-- after ProgramText ^let ^fun Variable Interface Union' ^-> Base '. Label
+abbrev pub state_581 : Row
+state_581 = at
+    ((388, 2, 85002596690339219503104) ∷ (389, 2, 85002596690339219503104) ∷ [])
+    ((132, begin_at 1 389 2 85002596690339219503104) ∷ [])
+    ((17, (1, 461)) ∷ (36, (0, 462)) ∷ (37, (1, 463)) ∷ [])
+    ((132, 641) ∷ [])
+    ((388, 85002596690339219503104) ∷ [])
+
+-- after ProgramText ^let ^fun Variable Interface Union' ^-> Base ^/ Label
+abbrev pub state_582 : Row
+state_582 = at
+    ((390, 2, 85002596690339219503104) ∷ (391, 2, 85002596690339219503104) ∷ [])
+    ((132, begin_at 1 391 2 85002596690339219503104) ∷ [])
+    ((17, (1, 461)) ∷ (36, (0, 462)) ∷ (37, (1, 463)) ∷ [])
+    ((132, 642) ∷ [])
+    ((390, 85002596690339219503104) ∷ [])
+
+-- after ProgramText ^let ^fun Variable Interface Union' ^-> ^( Expr ')
+abbrev pub state_583 : Row
+state_583 = at
+    ((405, 3, 85002596690545378064384) ∷ [])
+    []
+    []
+    []
+    ((405, 85002596690545378064384) ∷ [])
+
+-- after ProgramText ^let ^fun Variable Interface Union' ^-> ^( Expr ',
+abbrev pub state_584 : Row
+state_584 = at
+    ((415, 2, 17180393472) ∷ [])
+    ((113, begin_at 1 415 2 17180393472) ∷ (115, begin_at 2 331 0 17180393472) ∷
+    (116, begin_at 3 336 0 17180426240) ∷ (117, begin_at 3 335 0 17180426240) ∷
+    (118, begin_at 4 340 0 17180442624) ∷ (119, begin_at 4 339 0 17180442624) ∷
+    (120, begin_at 5 344 0 17180442624) ∷ (121, begin_at 5 343 0 17297897472) ∷
+    (122, begin_at 6 352 0 567053711360) ∷ (123, begin_at 6 351 0 567053711360) ∷
+    (124, begin_at 7 356 0 570811807744) ∷ (125, begin_at 7 355 0 570811807744) ∷
+    (126, begin_at 8 364 0 108086962137135104) ∷ (127, begin_at 8 363 0 108086962137135104) ∷
+    (128, begin_at 9 379 0 6714722929792419428352) ∷
+    (129, begin_at 9 378 0 6714722929792419428352) ∷
+    (134, begin_at 10 382 0 6714722929998577989632) ∷
+    (136, begin_at 11 395 0 6714722929998577989632) ∷
+    (137, begin_at 12 398 0 6714722929998577989632) ∷ [])
+    ((18, (1, 348)) ∷ (20, (1, 349)) ∷ (22, (1, 350)) ∷ (24, (1, 351)) ∷ (42, (1, 467)) ∷
+    (43, (1, 353)) ∷ (45, (1, 354)) ∷ (47, (1, 468)) ∷ (50, (1, 356)) ∷ (51, (1, 357)) ∷
+    (52, (1, 358)) ∷ (57, (0, 359)) ∷ (58, (0, 360)) ∷ (59, (0, 361)) ∷ (60, (0, 362)) ∷
+    (61, (0, 363)) ∷ (62, (0, 364)) ∷ (63, (0, 365)) ∷ (66, (0, 366)) ∷ (67, (0, 367)) ∷
+    (69, (0, 368)) ∷ (70, (0, 369)) ∷ (72, (0, 370)) ∷ [])
+    ((113, 643) ∷ (115, 465) ∷ (116, 331) ∷ (117, 332) ∷ (118, 333) ∷ (119, 334) ∷ (120, 335) ∷
+    (121, 336) ∷ (122, 337) ∷ (123, 338) ∷ (124, 339) ∷ (125, 340) ∷ (126, 341) ∷ (127, 342) ∷
+    (128, 343) ∷ (129, 344) ∷ (134, 345) ∷ (136, 346) ∷ (137, 347) ∷ [])
     []
 
 -- after ProgramText ^let ^fun Variable Interface Union' ^-> ^( Exprs ')
-abbrev pub state_562 : Row
-state_562 = at
-    ((392, 3, 1328165573027847731200) ∷ [])
+abbrev pub state_585 : Row
+state_585 = at
+    ((406, 3, 85002596690545378064384) ∷ [])
     []
     []
     []
-    ((392, 1328165573027847731200) ∷ [])
+    ((406, 85002596690545378064384) ∷ [])
 
 -- after ProgramText ^let ^fun Variable Interface Union' ^-> ^( Exprs ',
-abbrev pub state_563 : Row
-state_563 = at
-    ((398, 2, 8590196736) ∷ [])
-    ((109, begin_at 1 398 2 8590196736) ∷ (111, begin_at 2 319 0 8590196736) ∷
-    (112, begin_at 3 324 0 8590229504) ∷ (113, begin_at 3 323 0 8590229504) ∷
-    (114, begin_at 4 328 0 8590245888) ∷ (115, begin_at 4 327 0 8590245888) ∷
-    (116, begin_at 5 332 0 8590245888) ∷ (117, begin_at 5 331 0 8648980480) ∷
-    (118, begin_at 6 340 0 146087933952) ∷ (119, begin_at 6 339 0 146087933952) ∷
-    (120, begin_at 7 344 0 147966982144) ∷ (121, begin_at 7 343 0 147966982144) ∷
-    (122, begin_at 8 352 0 27021745865422848) ∷ (123, begin_at 8 351 0 27021745865422848) ∷
-    (124, begin_at 9 365 0 104942878665091250176) ∷ (125, begin_at 9 364 0 104942878665091250176) ∷
-    (126, begin_at 10 369 0 104942878699450988544) ∷
-    (131, begin_at 10 368 0 104942878699450988544) ∷
-    (133, begin_at 11 381 0 104942878699450988544) ∷
-    (134, begin_at 12 384 0 104942878699450988544) ∷ [])
-    ((17, (1, 335)) ∷ (19, (1, 336)) ∷ (21, (1, 337)) ∷ (23, (1, 338)) ∷ (40, (1, 448)) ∷
-    (41, (1, 340)) ∷ (43, (1, 341)) ∷ (45, (1, 449)) ∷ (48, (1, 343)) ∷ (49, (1, 344)) ∷
-    (50, (1, 345)) ∷ (55, (0, 346)) ∷ (56, (0, 347)) ∷ (57, (0, 348)) ∷ (58, (0, 349)) ∷
-    (59, (0, 350)) ∷ (60, (0, 351)) ∷ (61, (0, 352)) ∷ (63, (0, 353)) ∷ (64, (0, 354)) ∷
-    (66, (0, 355)) ∷ [])
-    ((109, 619) ∷ (111, 446) ∷ (112, 317) ∷ (113, 318) ∷ (114, 319) ∷ (115, 320) ∷ (116, 321) ∷
-    (117, 322) ∷ (118, 323) ∷ (119, 324) ∷ (120, 325) ∷ (121, 326) ∷ (122, 327) ∷ (123, 328) ∷
-    (124, 329) ∷ (125, 330) ∷ (126, 331) ∷ (131, 332) ∷ (133, 333) ∷ (134, 334) ∷ [])
+abbrev pub state_586 : Row
+state_586 = at
+    ((416, 2, 17180393472) ∷ [])
+    ((113, begin_at 1 416 2 17180393472) ∷ (115, begin_at 2 331 0 17180393472) ∷
+    (116, begin_at 3 336 0 17180426240) ∷ (117, begin_at 3 335 0 17180426240) ∷
+    (118, begin_at 4 340 0 17180442624) ∷ (119, begin_at 4 339 0 17180442624) ∷
+    (120, begin_at 5 344 0 17180442624) ∷ (121, begin_at 5 343 0 17297897472) ∷
+    (122, begin_at 6 352 0 567053711360) ∷ (123, begin_at 6 351 0 567053711360) ∷
+    (124, begin_at 7 356 0 570811807744) ∷ (125, begin_at 7 355 0 570811807744) ∷
+    (126, begin_at 8 364 0 108086962137135104) ∷ (127, begin_at 8 363 0 108086962137135104) ∷
+    (128, begin_at 9 379 0 6714722929792419428352) ∷
+    (129, begin_at 9 378 0 6714722929792419428352) ∷
+    (134, begin_at 10 382 0 6714722929998577989632) ∷
+    (136, begin_at 11 395 0 6714722929998577989632) ∷
+    (137, begin_at 12 398 0 6714722929998577989632) ∷ [])
+    ((18, (1, 348)) ∷ (20, (1, 349)) ∷ (22, (1, 350)) ∷ (24, (1, 351)) ∷ (42, (1, 467)) ∷
+    (43, (1, 353)) ∷ (45, (1, 354)) ∷ (47, (1, 468)) ∷ (50, (1, 356)) ∷ (51, (1, 357)) ∷
+    (52, (1, 358)) ∷ (57, (0, 359)) ∷ (58, (0, 360)) ∷ (59, (0, 361)) ∷ (60, (0, 362)) ∷
+    (61, (0, 363)) ∷ (62, (0, 364)) ∷ (63, (0, 365)) ∷ (66, (0, 366)) ∷ (67, (0, 367)) ∷
+    (69, (0, 368)) ∷ (70, (0, 369)) ∷ (72, (0, 370)) ∷ [])
+    ((113, 644) ∷ (115, 465) ∷ (116, 331) ∷ (117, 332) ∷ (118, 333) ∷ (119, 334) ∷ (120, 335) ∷
+    (121, 336) ∷ (122, 337) ∷ (123, 338) ∷ (124, 339) ∷ (125, 340) ∷ (126, 341) ∷ (127, 342) ∷
+    (128, 343) ∷ (129, 344) ∷ (134, 345) ∷ (136, 346) ∷ (137, 347) ∷ [])
     []
 
 -- after ProgramText ^let ^fun Variable Interface Union' ^-> ^( ^let Union'
-abbrev pub state_564 : Row
-state_564 = at
-    ((317, 2, 233122239348736) ∷ [])
+abbrev pub state_587 : Row
+state_587 = at
+    ((329, 2, 36894420584827977728) ∷ [])
     []
-    ((25, (0, 620)) ∷ [])
+    ((26, (0, 645)) ∷ [])
     []
     []
 
 -- after ProgramText ^let ^fun Variable Interface Union' ^-> ^( ^if Expr
-abbrev pub state_565 : Row
-state_565 = at
-    ((318, 2, 233122239348736) ∷ [])
+abbrev pub state_588 : Row
+state_588 = at
+    ((330, 2, 36894420584827977728) ∷ [])
     []
-    ((46, (0, 621)) ∷ [])
+    ((48, (0, 646)) ∷ [])
+    []
+    []
+
+-- after ProgramText ^let ^fun Variable Interface Union' ^-> ^( 'select Expr
+abbrev pub state_589 : Row
+state_589 = at
+    ((411, 3, 85002596690545378064384) ∷ [])
+    []
+    ((65, (0, 647)) ∷ [])
     []
     []
 
--- after ProgramText ^let ^fun Variable Interface Union' ^-> ^[ CSelects '.
-abbrev pub state_566 : Row
-state_566 = at
-    ((379, 2, 109527543040741867520) ∷ [])
-    ((94, begin_at 1 379 2 109527543040741867520) ∷ [])
-    ((39, (0, 67)) ∷ (40, (0, 68)) ∷ (41, (0, 69)) ∷ (42, (0, 70)) ∷ (43, (0, 71)) ∷ (44, (0, 72)) ∷
-    (45, (0, 73)) ∷ (46, (0, 74)) ∷ (47, (0, 75)) ∷ (48, (0, 76)) ∷ (49, (0, 77)) ∷ (50, (0, 78)) ∷
-    (51, (0, 79)) ∷ (52, (0, 80)) ∷ (53, (0, 81)) ∷ (54, (0, 82)) ∷ (55, (0, 83)) ∷ (56, (0, 84)) ∷
-    (57, (0, 85)) ∷ (58, (0, 86)) ∷ (59, (0, 87)) ∷ (65, (0, 88)) ∷ (66, (0, 89)) ∷ [])
-    ((94, 622) ∷ [])
+-- after ProgramText ^let ^fun Variable Interface Union' ^-> ^[ CBase Steps
+abbrev pub state_590 : Row
+state_590 = at
+    ((387, 2, 7009762748284531900416) ∷ [])
     []
-
--- after ProgramText ^let ^fun Variable Interface Union' ^-> ^[ CBase '.
-abbrev pub state_567 : Row
-state_567 = at
-    ((378, 2, 109527543040741867520) ∷ [])
-    ((94, begin_at 1 378 2 109527543040741867520) ∷ [])
-    ((39, (0, 67)) ∷ (40, (0, 68)) ∷ (41, (0, 69)) ∷ (42, (0, 70)) ∷ (43, (0, 71)) ∷ (44, (0, 72)) ∷
-    (45, (0, 73)) ∷ (46, (0, 74)) ∷ (47, (0, 75)) ∷ (48, (0, 76)) ∷ (49, (0, 77)) ∷ (50, (0, 78)) ∷
-    (51, (0, 79)) ∷ (52, (0, 80)) ∷ (53, (0, 81)) ∷ (54, (0, 82)) ∷ (55, (0, 83)) ∷ (56, (0, 84)) ∷
-    (57, (0, 85)) ∷ (58, (0, 86)) ∷ (59, (0, 87)) ∷ (65, (0, 88)) ∷ (66, (0, 89)) ∷ [])
-    ((94, 623) ∷ [])
     []
+    []
+    ((387, 7009762748284531900416) ∷ [])
 
 -- after ProgramText ^let ^fun Variable Interface Union' ^-> ^[ Items Item
-abbrev pub state_568 : Row
-state_568 = at
-    ((400, 2, 109527543006382129152) ∷ [])
+abbrev pub state_591 : Row
+state_591 = at
+    ((418, 2, 7009762748284531900416) ∷ [])
     []
     []
     []
-    ((400, 109527543006382129152) ∷ [])
+    ((418, 7009762748284531900416) ∷ [])
 
 -- after ProgramText ^let ^fun Variable Interface Union' ^-> ^[ Items ']
-abbrev pub state_569 : Row
-state_569 = at
-    ((394, 3, 1328165573027847731200) ∷ [])
+abbrev pub state_592 : Row
+state_592 = at
+    ((408, 3, 85002596690545378064384) ∷ [])
     []
     []
     []
-    ((394, 1328165573027847731200) ∷ [])
+    ((408, 85002596690545378064384) ∷ [])
 
 -- after ProgramText ^let ^fun Variable Interface Union' ^-> ^[ '! Post
-abbrev pub state_570 : Row
-state_570 = at
-    ((403, 2, 109527543006382129152) ∷ [])
+abbrev pub state_593 : Row
+state_593 = at
+    ((421, 2, 7009762748284531900416) ∷ [])
     []
     []
     []
-    ((403, 109527543006382129152) ∷ [])
+    ((421, 7009762748284531900416) ∷ [])
 
 -- after ProgramText ^let ^fun Variable Interface Union' ^-> ^{ Label '=
-abbrev pub state_571 : Row
-state_571 = at
-    ((409, 2, 17184063488) ∷ [])
-    ((109, begin_at 1 409 2 17184063488) ∷ (111, begin_at 2 319 0 17184063488) ∷
-    (112, begin_at 3 324 0 17184096256) ∷ (113, begin_at 3 323 0 17184096256) ∷
-    (114, begin_at 4 328 0 17184112640) ∷ (115, begin_at 4 327 0 17184112640) ∷
-    (116, begin_at 5 332 0 17184112640) ∷ (117, begin_at 5 331 0 17242847232) ∷
-    (118, begin_at 6 340 0 154681800704) ∷ (119, begin_at 6 339 0 154681800704) ∷
-    (120, begin_at 7 344 0 156560848896) ∷ (121, begin_at 7 343 0 156560848896) ∷
-    (122, begin_at 8 352 0 27021754459289600) ∷ (123, begin_at 8 351 0 27021754459289600) ∷
-    (124, begin_at 9 365 0 104942878673685116928) ∷ (125, begin_at 9 364 0 104942878673685116928) ∷
-    (126, begin_at 10 369 0 104942878708044855296) ∷
-    (131, begin_at 10 368 0 104942878708044855296) ∷
-    (133, begin_at 11 381 0 104942878708044855296) ∷
-    (134, begin_at 12 384 0 104942878708044855296) ∷ [])
-    ((17, (1, 335)) ∷ (19, (1, 336)) ∷ (21, (1, 337)) ∷ (23, (1, 338)) ∷ (40, (1, 448)) ∷
-    (41, (1, 340)) ∷ (43, (1, 341)) ∷ (45, (1, 449)) ∷ (48, (1, 343)) ∷ (49, (1, 344)) ∷
-    (50, (1, 345)) ∷ (55, (0, 346)) ∷ (56, (0, 347)) ∷ (57, (0, 348)) ∷ (58, (0, 349)) ∷
-    (59, (0, 350)) ∷ (60, (0, 351)) ∷ (61, (0, 352)) ∷ (63, (0, 353)) ∷ (64, (0, 354)) ∷
-    (66, (0, 355)) ∷ [])
-    ((109, 624) ∷ (111, 446) ∷ (112, 317) ∷ (113, 318) ∷ (114, 319) ∷ (115, 320) ∷ (116, 321) ∷
-    (117, 322) ∷ (118, 323) ∷ (119, 324) ∷ (120, 325) ∷ (121, 326) ∷ (122, 327) ∷ (123, 328) ∷
-    (124, 329) ∷ (125, 330) ∷ (126, 331) ∷ (131, 332) ∷ (133, 333) ∷ (134, 334) ∷ [])
+abbrev pub state_594 : Row
+state_594 = at
+    ((427, 2, 34368126976) ∷ [])
+    ((113, begin_at 1 427 2 34368126976) ∷ (115, begin_at 2 331 0 34368126976) ∷
+    (116, begin_at 3 336 0 34368159744) ∷ (117, begin_at 3 335 0 34368159744) ∷
+    (118, begin_at 4 340 0 34368176128) ∷ (119, begin_at 4 339 0 34368176128) ∷
+    (120, begin_at 5 344 0 34368176128) ∷ (121, begin_at 5 343 0 34485630976) ∷
+    (122, begin_at 6 352 0 584241444864) ∷ (123, begin_at 6 351 0 584241444864) ∷
+    (124, begin_at 7 356 0 587999541248) ∷ (125, begin_at 7 355 0 587999541248) ∷
+    (126, begin_at 8 364 0 108086979324868608) ∷ (127, begin_at 8 363 0 108086979324868608) ∷
+    (128, begin_at 9 379 0 6714722929809607161856) ∷
+    (129, begin_at 9 378 0 6714722929809607161856) ∷
+    (134, begin_at 10 382 0 6714722930015765723136) ∷
+    (136, begin_at 11 395 0 6714722930015765723136) ∷
+    (137, begin_at 12 398 0 6714722930015765723136) ∷ [])
+    ((18, (1, 348)) ∷ (20, (1, 349)) ∷ (22, (1, 350)) ∷ (24, (1, 351)) ∷ (42, (1, 467)) ∷
+    (43, (1, 353)) ∷ (45, (1, 354)) ∷ (47, (1, 468)) ∷ (50, (1, 356)) ∷ (51, (1, 357)) ∷
+    (52, (1, 358)) ∷ (57, (0, 359)) ∷ (58, (0, 360)) ∷ (59, (0, 361)) ∷ (60, (0, 362)) ∷
+    (61, (0, 363)) ∷ (62, (0, 364)) ∷ (63, (0, 365)) ∷ (66, (0, 366)) ∷ (67, (0, 367)) ∷
+    (69, (0, 368)) ∷ (70, (0, 369)) ∷ (72, (0, 370)) ∷ [])
+    ((113, 648) ∷ (115, 465) ∷ (116, 331) ∷ (117, 332) ∷ (118, 333) ∷ (119, 334) ∷ (120, 335) ∷
+    (121, 336) ∷ (122, 337) ∷ (123, 338) ∷ (124, 339) ∷ (125, 340) ∷ (126, 341) ∷ (127, 342) ∷
+    (128, 343) ∷ (129, 344) ∷ (134, 345) ∷ (136, 346) ∷ (137, 347) ∷ [])
     []
 
 -- after ProgramText ^let ^fun Variable Interface Union' ^-> ^{ EFields '}
-abbrev pub state_572 : Row
-state_572 = at
-    ((396, 3, 1328165573027847731200) ∷ [])
+abbrev pub state_595 : Row
+state_595 = at
+    ((410, 3, 85002596690545378064384) ∷ [])
     []
     []
     []
-    ((396, 1328165573027847731200) ∷ [])
+    ((410, 85002596690545378064384) ∷ [])
 
 -- after ProgramText ^let ^fun Variable Interface Union' ^-> ^{ ERow ';
-abbrev pub state_573 : Row
-state_573 = at
-    ((406, 2, 4194304) ∷ (408, 2, 17184063488) ∷ [])
-    ((94, begin_at 2 409 0 33554432) ∷ (140, begin_at 1 408 2 17184063488) ∷ [])
-    ((39, (0, 67)) ∷ (40, (0, 68)) ∷ (41, (0, 69)) ∷ (42, (0, 70)) ∷ (43, (0, 71)) ∷ (44, (0, 72)) ∷
-    (45, (0, 73)) ∷ (46, (0, 74)) ∷ (47, (0, 75)) ∷ (48, (0, 76)) ∷ (49, (0, 77)) ∷ (50, (0, 78)) ∷
-    (51, (0, 79)) ∷ (52, (0, 80)) ∷ (53, (0, 81)) ∷ (54, (0, 82)) ∷ (55, (0, 83)) ∷ (56, (0, 84)) ∷
-    (57, (0, 85)) ∷ (58, (0, 86)) ∷ (59, (0, 87)) ∷ (65, (0, 88)) ∷ (66, (0, 89)) ∷ [])
-    ((94, 459) ∷ (140, 625) ∷ [])
-    ((406, 4194304) ∷ [])
+abbrev pub state_596 : Row
+state_596 = at
+    ((424, 2, 8388608) ∷ (426, 2, 34368126976) ∷ [])
+    ((98, begin_at 2 427 0 67108864) ∷ (143, begin_at 1 426 2 34368126976) ∷ [])
+    ((41, (0, 69)) ∷ (42, (0, 70)) ∷ (43, (0, 71)) ∷ (44, (0, 72)) ∷ (45, (0, 73)) ∷ (46, (0, 74)) ∷
+    (47, (0, 75)) ∷ (48, (0, 76)) ∷ (49, (0, 77)) ∷ (50, (0, 78)) ∷ (51, (0, 79)) ∷ (52, (0, 80)) ∷
+    (53, (0, 81)) ∷ (54, (0, 82)) ∷ (55, (0, 83)) ∷ (56, (0, 84)) ∷ (57, (0, 85)) ∷ (58, (0, 86)) ∷
+    (59, (0, 87)) ∷ (60, (0, 88)) ∷ (61, (0, 89)) ∷ (62, (0, 90)) ∷ (63, (0, 91)) ∷ (64, (0, 92)) ∷
+    (65, (0, 93)) ∷ (71, (0, 94)) ∷ (72, (0, 95)) ∷ [])
+    ((98, 478) ∷ (143, 649) ∷ [])
+    ((424, 8388608) ∷ [])
 
 -- after ProgramText ^let ^fun Variable Interface Union' ^-> ^< ETag Label
-abbrev pub state_574 : Row
-state_574 = at
-    ((419, 1, 111833385414304989184) ∷ [])
+abbrev pub state_597 : Row
+state_597 = at
+    ((437, 1, 7157336698434676064256) ∷ [])
     []
-    ((25, (0, 626)) ∷ [])
+    ((26, (0, 650)) ∷ [])
     []
     []
 
 -- after ProgramText ^let ^fun Variable Interface Union' ^-> ^< ETag EAttrs
-abbrev pub state_575 : Row
-state_575 = at
-    ((386, 3, 1328165573027847731200) ∷ [])
+abbrev pub state_598 : Row
+state_598 = at
+    ((400, 3, 85002596690545378064384) ∷ [])
     []
-    ((24, (0, 627)) ∷ [])
+    ((25, (0, 651)) ∷ [])
     []
     []
 
 -- after ProgramText ^let ^fun Variable Interface Union' ^-> ^< ETag EAttrFields
-abbrev pub state_576 : Row
-state_576 = at
-    ((412, 1, 16777216) ∷ [])
+abbrev pub state_599 : Row
+state_599 = at
+    ((430, 1, 33554432) ∷ [])
     []
     []
     []
-    ((412, 16777216) ∷ [])
+    ((430, 33554432) ∷ [])
 
 -- after ProgramText ^let ^fun Variable Interface Union' ^-> ^< ETag EAttrList
-abbrev pub state_577 : Row
-state_577 = at
-    ((414, 1, 16777216) ∷ (415, 1, 16777216) ∷ (417, 1, 111833385414304989184) ∷
-    (418, 1, 111833385414304989184) ∷ [])
-    ((94, begin_at 2 419 0 33554432) ∷ (145, begin_at 1 417 1 111833385414304989184) ∷ [])
-    ((34, (0, 629)) ∷ (39, (0, 67)) ∷ (40, (0, 68)) ∷ (41, (0, 69)) ∷ (42, (0, 70)) ∷
-    (43, (0, 71)) ∷ (44, (0, 72)) ∷ (45, (0, 73)) ∷ (46, (0, 74)) ∷ (47, (0, 75)) ∷ (48, (0, 76)) ∷
-    (49, (0, 77)) ∷ (50, (0, 78)) ∷ (51, (0, 79)) ∷ (52, (0, 80)) ∷ (53, (0, 81)) ∷ (54, (0, 82)) ∷
-    (55, (0, 83)) ∷ (56, (0, 84)) ∷ (57, (0, 85)) ∷ (58, (0, 86)) ∷ (59, (0, 87)) ∷ (65, (0, 88)) ∷
-    (66, (0, 89)) ∷ [])
-    ((94, 574) ∷ (145, 628) ∷ [])
-    ((414, 16777216) ∷ [])
+abbrev pub state_600 : Row
+state_600 = at
+    ((432, 1, 33554432) ∷ (433, 1, 33554432) ∷ (435, 1, 7157336698434676064256) ∷
+    (436, 1, 7157336698434676064256) ∷ [])
+    ((98, begin_at 2 437 0 67108864) ∷ (148, begin_at 1 435 1 7157336698434676064256) ∷ [])
+    ((35, (0, 653)) ∷ (41, (0, 69)) ∷ (42, (0, 70)) ∷ (43, (0, 71)) ∷ (44, (0, 72)) ∷
+    (45, (0, 73)) ∷ (46, (0, 74)) ∷ (47, (0, 75)) ∷ (48, (0, 76)) ∷ (49, (0, 77)) ∷ (50, (0, 78)) ∷
+    (51, (0, 79)) ∷ (52, (0, 80)) ∷ (53, (0, 81)) ∷ (54, (0, 82)) ∷ (55, (0, 83)) ∷ (56, (0, 84)) ∷
+    (57, (0, 85)) ∷ (58, (0, 86)) ∷ (59, (0, 87)) ∷ (60, (0, 88)) ∷ (61, (0, 89)) ∷ (62, (0, 90)) ∷
+    (63, (0, 91)) ∷ (64, (0, 92)) ∷ (65, (0, 93)) ∷ (71, (0, 94)) ∷ (72, (0, 95)) ∷ [])
+    ((98, 597) ∷ (148, 652) ∷ [])
+    ((432, 33554432) ∷ [])
 
 -- after ProgramText ^let ^fun Variable Interface Union' ^-> ^< ETag EAttr
-abbrev pub state_578 : Row
-state_578 = at
-    ((416, 1, 111833385414304989184) ∷ [])
+abbrev pub state_601 : Row
+state_601 = at
+    ((434, 1, 7157336698434676064256) ∷ [])
     []
     []
     []
-    ((416, 111833385414304989184) ∷ [])
+    ((434, 7157336698434676064256) ∷ [])
 
 -- after ProgramText ^let ^fun Variable Interface Union' ^-> ^< ETag ^(
-abbrev pub state_579 : Row
-state_579 = at
-    ((413, 1, 16777216) ∷ [])
-    ((109, begin_at 1 413 1 262144) ∷ (111, begin_at 2 319 0 262144) ∷
-    (112, begin_at 3 324 0 294912) ∷ (113, begin_at 3 323 0 294912) ∷
-    (114, begin_at 4 328 0 311296) ∷ (115, begin_at 4 327 0 311296) ∷
-    (116, begin_at 5 332 0 311296) ∷ (117, begin_at 5 331 0 59045888) ∷
-    (118, begin_at 6 340 0 137497999360) ∷ (119, begin_at 6 339 0 137497999360) ∷
-    (120, begin_at 7 344 0 139377047552) ∷ (121, begin_at 7 343 0 139377047552) ∷
-    (122, begin_at 8 352 0 27021737275488256) ∷ (123, begin_at 8 351 0 27021737275488256) ∷
-    (124, begin_at 9 365 0 104942878656501315584) ∷ (125, begin_at 9 364 0 104942878656501315584) ∷
-    (126, begin_at 10 369 0 104942878690861053952) ∷
-    (131, begin_at 10 368 0 104942878690861053952) ∷
-    (133, begin_at 11 381 0 104942878690861053952) ∷
-    (134, begin_at 12 384 0 104942878690861053952) ∷ [])
-    ((17, (1, 335)) ∷ (19, (1, 336)) ∷ (21, (1, 337)) ∷ (23, (1, 338)) ∷ (40, (1, 448)) ∷
-    (41, (1, 340)) ∷ (43, (1, 341)) ∷ (45, (1, 449)) ∷ (48, (1, 343)) ∷ (49, (1, 344)) ∷
-    (50, (1, 345)) ∷ (55, (0, 346)) ∷ (56, (0, 347)) ∷ (57, (0, 348)) ∷ (58, (0, 349)) ∷
-    (59, (0, 350)) ∷ (60, (0, 351)) ∷ (61, (0, 352)) ∷ (63, (0, 353)) ∷ (64, (0, 354)) ∷
-    (66, (0, 355)) ∷ [])
-    ((109, 630) ∷ (111, 446) ∷ (112, 317) ∷ (113, 318) ∷ (114, 319) ∷ (115, 320) ∷ (116, 321) ∷
-    (117, 322) ∷ (118, 323) ∷ (119, 324) ∷ (120, 325) ∷ (121, 326) ∷ (122, 327) ∷ (123, 328) ∷
-    (124, 329) ∷ (125, 330) ∷ (126, 331) ∷ (131, 332) ∷ (133, 333) ∷ (134, 334) ∷ [])
+abbrev pub state_602 : Row
+state_602 = at
+    ((431, 1, 33554432) ∷ [])
+    ((113, begin_at 1 431 1 524288) ∷ (115, begin_at 2 331 0 524288) ∷
+    (116, begin_at 3 336 0 557056) ∷ (117, begin_at 3 335 0 557056) ∷
+    (118, begin_at 4 340 0 573440) ∷ (119, begin_at 4 339 0 573440) ∷
+    (120, begin_at 5 344 0 573440) ∷ (121, begin_at 5 343 0 118028288) ∷
+    (122, begin_at 6 352 0 549873842176) ∷ (123, begin_at 6 351 0 549873842176) ∷
+    (124, begin_at 7 356 0 553631938560) ∷ (125, begin_at 7 355 0 553631938560) ∷
+    (126, begin_at 8 364 0 108086944957265920) ∷ (127, begin_at 8 363 0 108086944957265920) ∷
+    (128, begin_at 9 379 0 6714722929775239559168) ∷
+    (129, begin_at 9 378 0 6714722929775239559168) ∷
+    (134, begin_at 10 382 0 6714722929981398120448) ∷
+    (136, begin_at 11 395 0 6714722929981398120448) ∷
+    (137, begin_at 12 398 0 6714722929981398120448) ∷ [])
+    ((18, (1, 348)) ∷ (20, (1, 349)) ∷ (22, (1, 350)) ∷ (24, (1, 351)) ∷ (42, (1, 467)) ∷
+    (43, (1, 353)) ∷ (45, (1, 354)) ∷ (47, (1, 468)) ∷ (50, (1, 356)) ∷ (51, (1, 357)) ∷
+    (52, (1, 358)) ∷ (57, (0, 359)) ∷ (58, (0, 360)) ∷ (59, (0, 361)) ∷ (60, (0, 362)) ∷
+    (61, (0, 363)) ∷ (62, (0, 364)) ∷ (63, (0, 365)) ∷ (66, (0, 366)) ∷ (67, (0, 367)) ∷
+    (69, (0, 368)) ∷ (70, (0, 369)) ∷ (72, (0, 370)) ∷ [])
+    ((113, 654) ∷ (115, 465) ∷ (116, 331) ∷ (117, 332) ∷ (118, 333) ∷ (119, 334) ∷ (120, 335) ∷
+    (121, 336) ∷ (122, 337) ∷ (123, 338) ∷ (124, 339) ∷ (125, 340) ∷ (126, 341) ∷ (127, 342) ∷
+    (128, 343) ∷ (129, 344) ∷ (134, 345) ∷ (136, 346) ∷ (137, 347) ∷ [])
     []
 
 -- after ProgramText ^let ^fun Variable Interface Union' ^-> ^< ETag '>
-abbrev pub state_580 : Row
-state_580 = at
-    ((385, 3, 1328165573027847731200) ∷ [])
-    ((131, begin_at 1 385 3 1328165573027847731200) ∷
-    (133, begin_at 2 381 0 1328165573027847731200) ∷
-    (134, begin_at 3 384 0 1328165573027847731200) ∷ [])
-    ((17, (1, 335)) ∷ (19, (1, 336)) ∷ (21, (1, 337)) ∷ (23, (1, 338)) ∷ (60, (0, 351)) ∷
-    (61, (0, 352)) ∷ (63, (0, 353)) ∷ (64, (0, 354)) ∷ (66, (0, 355)) ∷ [])
-    ((131, 631) ∷ (133, 333) ∷ (134, 334) ∷ [])
+abbrev pub state_603 : Row
+state_603 = at
+    ((399, 3, 85002596690545378064384) ∷ [])
+    ((134, begin_at 1 399 3 85002596690545378064384) ∷
+    (136, begin_at 2 395 0 85002596690545378064384) ∷
+    (137, begin_at 3 398 0 85002596690545378064384) ∷ [])
+    ((18, (1, 348)) ∷ (20, (1, 349)) ∷ (22, (1, 350)) ∷ (24, (1, 351)) ∷ (66, (0, 366)) ∷
+    (67, (0, 367)) ∷ (69, (0, 368)) ∷ (70, (0, 369)) ∷ (72, (0, 370)) ∷ [])
+    ((134, 655) ∷ (136, 346) ∷ (137, 347) ∷ [])
     []
 
 -- after ProgramText ^let ^fun Variable Interface Union' ^-> ^< ^( Expr
-abbrev pub state_581 : Row
-state_581 = at
-    ((411, 2, 111833385397125251072) ∷ [])
+abbrev pub state_604 : Row
+state_604 = at
+    ((429, 2, 7157336698400316588032) ∷ [])
     []
-    ((18, (0, 632)) ∷ [])
+    ((19, (0, 656)) ∷ [])
     []
     []
 
 -- after ProgramText ^let ^fun Variable Interface Union' ^-> ^let Union' '=
-abbrev pub state_582 : Row
-state_582 = at
-    ((317, 3, 1180591855488918159360) ∷ (320, 3, 2147483648) ∷ [])
-    ((109, begin_at 1 317 3 4398046511104) ∷ (111, begin_at 2 319 0 4398046511104) ∷
-    (112, begin_at 3 324 0 4398046543872) ∷ (113, begin_at 3 323 0 4398046543872) ∷
-    (114, begin_at 4 328 0 4398046560256) ∷ (115, begin_at 4 327 0 4398046560256) ∷
-    (116, begin_at 5 332 0 4398046560256) ∷ (117, begin_at 5 331 0 4398105294848) ∷
-    (118, begin_at 6 340 0 4535544248320) ∷ (119, begin_at 6 339 0 4535544248320) ∷
-    (120, begin_at 7 344 0 4537423296512) ∷ (121, begin_at 7 343 0 4537423296512) ∷
-    (122, begin_at 8 352 0 27026135321737216) ∷ (123, begin_at 8 351 0 27026135321737216) ∷
-    (124, begin_at 9 365 0 104942883054547564544) ∷ (125, begin_at 9 364 0 104942883054547564544) ∷
-    (126, begin_at 10 369 0 104942883088907302912) ∷
-    (131, begin_at 10 368 0 104942883088907302912) ∷
-    (133, begin_at 11 381 0 104942883088907302912) ∷
-    (134, begin_at 12 384 0 104942883088907302912) ∷ [])
-    ((17, (1, 335)) ∷ (19, (1, 336)) ∷ (21, (1, 337)) ∷ (23, (1, 338)) ∷ (40, (1, 448)) ∷
-    (41, (1, 340)) ∷ (43, (1, 341)) ∷ (45, (1, 449)) ∷ (48, (1, 343)) ∷ (49, (1, 344)) ∷
-    (50, (1, 345)) ∷ (55, (0, 346)) ∷ (56, (0, 347)) ∷ (57, (0, 348)) ∷ (58, (0, 349)) ∷
-    (59, (0, 350)) ∷ (60, (0, 351)) ∷ (61, (0, 352)) ∷ (63, (0, 353)) ∷ (64, (0, 354)) ∷
-    (66, (0, 355)) ∷ [])
-    ((109, 633) ∷ (111, 446) ∷ (112, 317) ∷ (113, 318) ∷ (114, 319) ∷ (115, 320) ∷ (116, 321) ∷
-    (117, 322) ∷ (118, 323) ∷ (119, 324) ∷ (120, 325) ∷ (121, 326) ∷ (122, 327) ∷ (123, 328) ∷
-    (124, 329) ∷ (125, 330) ∷ (126, 331) ∷ (131, 332) ∷ (133, 333) ∷ (134, 334) ∷ [])
+abbrev pub state_605 : Row
+state_605 = at
+    ((329, 3, 75594758153096221229056) ∷ (332, 3, 4294967296) ∷ [])
+    ((113, begin_at 1 329 3 17592186044416) ∷ (115, begin_at 2 331 0 17592186044416) ∷
+    (116, begin_at 3 336 0 17592186077184) ∷ (117, begin_at 3 335 0 17592186077184) ∷
+    (118, begin_at 4 340 0 17592186093568) ∷ (119, begin_at 4 339 0 17592186093568) ∷
+    (120, begin_at 5 344 0 17592186093568) ∷ (121, begin_at 5 343 0 17592303548416) ∷
+    (122, begin_at 6 352 0 18142059362304) ∷ (123, begin_at 6 351 0 18142059362304) ∷
+    (124, begin_at 7 356 0 18145817458688) ∷ (125, begin_at 7 355 0 18145817458688) ∷
+    (126, begin_at 8 364 0 108104537142786048) ∷ (127, begin_at 8 363 0 108104537142786048) ∷
+    (128, begin_at 9 379 0 6714722947367425079296) ∷
+    (129, begin_at 9 378 0 6714722947367425079296) ∷
+    (134, begin_at 10 382 0 6714722947573583640576) ∷
+    (136, begin_at 11 395 0 6714722947573583640576) ∷
+    (137, begin_at 12 398 0 6714722947573583640576) ∷ [])
+    ((18, (1, 348)) ∷ (20, (1, 349)) ∷ (22, (1, 350)) ∷ (24, (1, 351)) ∷ (42, (1, 467)) ∷
+    (43, (1, 353)) ∷ (45, (1, 354)) ∷ (47, (1, 468)) ∷ (50, (1, 356)) ∷ (51, (1, 357)) ∷
+    (52, (1, 358)) ∷ (57, (0, 359)) ∷ (58, (0, 360)) ∷ (59, (0, 361)) ∷ (60, (0, 362)) ∷
+    (61, (0, 363)) ∷ (62, (0, 364)) ∷ (63, (0, 365)) ∷ (66, (0, 366)) ∷ (67, (0, 367)) ∷
+    (69, (0, 368)) ∷ (70, (0, 369)) ∷ (72, (0, 370)) ∷ [])
+    ((113, 657) ∷ (115, 465) ∷ (116, 331) ∷ (117, 332) ∷ (118, 333) ∷ (119, 334) ∷ (120, 335) ∷
+    (121, 336) ∷ (122, 337) ∷ (123, 338) ∷ (124, 339) ∷ (125, 340) ∷ (126, 341) ∷ (127, 342) ∷
+    (128, 343) ∷ (129, 344) ∷ (134, 345) ∷ (136, 346) ∷ (137, 347) ∷ [])
     []
 
 -- after ProgramText ^let ^fun Variable Interface Union' ^-> ^fun Interface Branches
-abbrev pub state_583 : Row
-state_583 = at
-    ((315, 3, 1180591855488918159360) ∷ [])
+abbrev pub state_606 : Row
+state_606 = at
+    ((327, 3, 75594758153096221229056) ∷ [])
     []
     []
     []
-    ((315, 1180591855488918159360) ∷ [])
+    ((327, 75594758153096221229056) ∷ [])
 
 -- after ProgramText ^let ^fun Variable Interface Union' ^-> ^fun Variable Interface
-abbrev pub state_584 : Row
-state_584 = at
-    ((316, 3, 1180591855488918159360) ∷ [])
-    ((54, begin_at 4 310 0 128) ∷ (55, begin_at 5 141 0 2147483776) ∷
-    (56, begin_at 5 140 0 2147483776) ∷ (57, begin_at 6 145 0 7516192896) ∷
-    (58, begin_at 6 144 0 7516192896) ∷ (59, begin_at 7 151 0 7516192896) ∷
-    (61, begin_at 7 150 0 7516192896) ∷ (95, begin_at 8 281 0 7516192896) ∷
-    (103, begin_at 1 316 3 1180591855488918159360) ∷
-    (104, begin_at 2 302 0 1180591855488918159360) ∷ (105, begin_at 3 305 0 141809345341531226113) ∷
-    (106, begin_at 4 306 0 141809345341531226113) ∷ (107, begin_at 5 308 0 2147483648) ∷
-    (108, begin_at 3 304 0 1180591855488918159360) ∷ [])
-    ((0, (0, 247)) ∷ (17, (1, 248)) ∷ (19, (1, 249)) ∷ (21, (1, 250)) ∷ (23, (1, 251)) ∷
-    (31, (0, 252)) ∷ (38, (0, 253)) ∷ (60, (0, 254)) ∷ (61, (0, 255)) ∷ (63, (0, 256)) ∷
-    (64, (0, 257)) ∷ (65, (0, 258)) ∷ (66, (0, 259)) ∷ [])
-    ((54, 233) ∷ (55, 234) ∷ (56, 235) ∷ (57, 236) ∷ (58, 237) ∷ (59, 238) ∷ (61, 239) ∷ (95, 240) ∷
-    (103, 634) ∷ (104, 242) ∷ (105, 243) ∷ (106, 244) ∷ (107, 245) ∷ (108, 246) ∷ [])
+abbrev pub state_607 : Row
+state_607 = at
+    ((328, 3, 75594758153096221229056) ∷ [])
+    ((56, begin_at 4 322 0 128) ∷ (57, begin_at 5 145 0 4294967424) ∷
+    (58, begin_at 5 144 0 4294967424) ∷ (59, begin_at 6 149 0 15032385664) ∷
+    (60, begin_at 6 148 0 15032385664) ∷ (61, begin_at 7 155 0 15032385664) ∷
+    (63, begin_at 7 154 0 15032385664) ∷ (99, begin_at 8 293 0 15032385664) ∷
+    (107, begin_at 1 328 3 75594758153096221229056) ∷
+    (108, begin_at 2 314 0 75594758153096221229056) ∷
+    (109, begin_at 3 317 0 9075798085364633305089) ∷
+    (110, begin_at 4 318 0 9075798085364633305089) ∷ (111, begin_at 5 320 0 4294967296) ∷
+    (112, begin_at 3 316 0 75594758153096221229056) ∷ [])
+    ((0, (0, 259)) ∷ (18, (1, 260)) ∷ (20, (1, 261)) ∷ (22, (1, 262)) ∷ (24, (1, 263)) ∷
+    (32, (0, 264)) ∷ (40, (0, 265)) ∷ (66, (0, 266)) ∷ (67, (0, 267)) ∷ (69, (0, 268)) ∷
+    (70, (0, 269)) ∷ (71, (0, 270)) ∷ (72, (0, 271)) ∷ [])
+    ((56, 245) ∷ (57, 246) ∷ (58, 247) ∷ (59, 248) ∷ (60, 249) ∷ (61, 250) ∷ (63, 251) ∷ (99, 252) ∷
+    (107, 658) ∷ (108, 254) ∷ (109, 255) ∷ (110, 256) ∷ (111, 257) ∷ (112, 258) ∷ [])
     []
 
 -- after ProgramText ^let ^fun Variable Interface Union' ^-> ^match Expr 'with
-abbrev pub state_585 : Row
-state_585 = at
-    ((311, 3, 1180591855488918159360) ∷ [])
-    ((54, begin_at 4 310 0 128) ∷ (55, begin_at 5 141 0 2147483776) ∷
-    (56, begin_at 5 140 0 2147483776) ∷ (57, begin_at 6 145 0 7516192896) ∷
-    (58, begin_at 6 144 0 7516192896) ∷ (59, begin_at 7 151 0 7516192896) ∷
-    (61, begin_at 7 150 0 7516192896) ∷ (95, begin_at 8 281 0 7516192896) ∷
-    (103, begin_at 1 311 3 1180591855488918159360) ∷
-    (104, begin_at 2 302 0 1180591855488918159360) ∷ (105, begin_at 3 305 0 141809345341531226113) ∷
-    (106, begin_at 4 306 0 141809345341531226113) ∷ (107, begin_at 5 308 0 2147483648) ∷
-    (108, begin_at 3 304 0 1180591855488918159360) ∷ [])
-    ((0, (0, 247)) ∷ (17, (1, 248)) ∷ (19, (1, 249)) ∷ (21, (1, 250)) ∷ (23, (1, 251)) ∷
-    (31, (0, 252)) ∷ (38, (0, 253)) ∷ (60, (0, 254)) ∷ (61, (0, 255)) ∷ (63, (0, 256)) ∷
-    (64, (0, 257)) ∷ (65, (0, 258)) ∷ (66, (0, 259)) ∷ [])
-    ((54, 233) ∷ (55, 234) ∷ (56, 235) ∷ (57, 236) ∷ (58, 237) ∷ (59, 238) ∷ (61, 239) ∷ (95, 240) ∷
-    (103, 635) ∷ (104, 242) ∷ (105, 243) ∷ (106, 244) ∷ (107, 245) ∷ (108, 246) ∷ [])
+abbrev pub state_608 : Row
+state_608 = at
+    ((323, 3, 75594758153096221229056) ∷ [])
+    ((56, begin_at 4 322 0 128) ∷ (57, begin_at 5 145 0 4294967424) ∷
+    (58, begin_at 5 144 0 4294967424) ∷ (59, begin_at 6 149 0 15032385664) ∷
+    (60, begin_at 6 148 0 15032385664) ∷ (61, begin_at 7 155 0 15032385664) ∷
+    (63, begin_at 7 154 0 15032385664) ∷ (99, begin_at 8 293 0 15032385664) ∷
+    (107, begin_at 1 323 3 75594758153096221229056) ∷
+    (108, begin_at 2 314 0 75594758153096221229056) ∷
+    (109, begin_at 3 317 0 9075798085364633305089) ∷
+    (110, begin_at 4 318 0 9075798085364633305089) ∷ (111, begin_at 5 320 0 4294967296) ∷
+    (112, begin_at 3 316 0 75594758153096221229056) ∷ [])
+    ((0, (0, 259)) ∷ (18, (1, 260)) ∷ (20, (1, 261)) ∷ (22, (1, 262)) ∷ (24, (1, 263)) ∷
+    (32, (0, 264)) ∷ (40, (0, 265)) ∷ (66, (0, 266)) ∷ (67, (0, 267)) ∷ (69, (0, 268)) ∷
+    (70, (0, 269)) ∷ (71, (0, 270)) ∷ (72, (0, 271)) ∷ [])
+    ((56, 245) ∷ (57, 246) ∷ (58, 247) ∷ (59, 248) ∷ (60, 249) ∷ (61, 250) ∷ (63, 251) ∷ (99, 252) ∷
+    (107, 659) ∷ (108, 254) ∷ (109, 255) ∷ (110, 256) ∷ (111, 257) ∷ (112, 258) ∷ [])
     []
 
 -- after ProgramText ^let ^fun Variable Interface Union' ^-> ^if Expr 'then
-abbrev pub state_586 : Row
-state_586 = at
-    ((318, 3, 1180591855488918159360) ∷ (321, 3, 2147483648) ∷ [])
-    ((109, begin_at 1 318 3 140737488355328) ∷ (111, begin_at 2 319 0 140737488355328) ∷
-    (112, begin_at 3 324 0 140737488388096) ∷ (113, begin_at 3 323 0 140737488388096) ∷
-    (114, begin_at 4 328 0 140737488404480) ∷ (115, begin_at 4 327 0 140737488404480) ∷
-    (116, begin_at 5 332 0 140737488404480) ∷ (117, begin_at 5 331 0 140737547139072) ∷
-    (118, begin_at 6 340 0 140874986092544) ∷ (119, begin_at 6 339 0 140874986092544) ∷
-    (120, begin_at 7 344 0 140876865140736) ∷ (121, begin_at 7 343 0 140876865140736) ∷
-    (122, begin_at 8 352 0 27162474763581440) ∷ (123, begin_at 8 351 0 27162474763581440) ∷
-    (124, begin_at 9 365 0 104943019393989408768) ∷ (125, begin_at 9 364 0 104943019393989408768) ∷
-    (126, begin_at 10 369 0 104943019428349147136) ∷
-    (131, begin_at 10 368 0 104943019428349147136) ∷
-    (133, begin_at 11 381 0 104943019428349147136) ∷
-    (134, begin_at 12 384 0 104943019428349147136) ∷ [])
-    ((17, (1, 335)) ∷ (19, (1, 336)) ∷ (21, (1, 337)) ∷ (23, (1, 338)) ∷ (40, (1, 448)) ∷
-    (41, (1, 340)) ∷ (43, (1, 341)) ∷ (45, (1, 449)) ∷ (48, (1, 343)) ∷ (49, (1, 344)) ∷
-    (50, (1, 345)) ∷ (55, (0, 346)) ∷ (56, (0, 347)) ∷ (57, (0, 348)) ∷ (58, (0, 349)) ∷
-    (59, (0, 350)) ∷ (60, (0, 351)) ∷ (61, (0, 352)) ∷ (63, (0, 353)) ∷ (64, (0, 354)) ∷
-    (66, (0, 355)) ∷ [])
-    ((109, 636) ∷ (111, 446) ∷ (112, 317) ∷ (113, 318) ∷ (114, 319) ∷ (115, 320) ∷ (116, 321) ∷
-    (117, 322) ∷ (118, 323) ∷ (119, 324) ∷ (120, 325) ∷ (121, 326) ∷ (122, 327) ∷ (123, 328) ∷
-    (124, 329) ∷ (125, 330) ∷ (126, 331) ∷ (131, 332) ∷ (133, 333) ∷ (134, 334) ∷ [])
+abbrev pub state_609 : Row
+state_609 = at
+    ((330, 3, 75594758153096221229056) ∷ (333, 3, 4294967296) ∷ [])
+    ((113, begin_at 1 330 3 562949953421312) ∷ (115, begin_at 2 331 0 562949953421312) ∷
+    (116, begin_at 3 336 0 562949953454080) ∷ (117, begin_at 3 335 0 562949953454080) ∷
+    (118, begin_at 4 340 0 562949953470464) ∷ (119, begin_at 4 339 0 562949953470464) ∷
+    (120, begin_at 5 344 0 562949953470464) ∷ (121, begin_at 5 343 0 562950070925312) ∷
+    (122, begin_at 6 352 0 563499826739200) ∷ (123, begin_at 6 351 0 563499826739200) ∷
+    (124, begin_at 7 356 0 563503584835584) ∷ (125, begin_at 7 355 0 563503584835584) ∷
+    (126, begin_at 8 364 0 108649894910162944) ∷ (127, begin_at 8 363 0 108649894910162944) ∷
+    (128, begin_at 9 379 0 6714723492725192456192) ∷
+    (129, begin_at 9 378 0 6714723492725192456192) ∷
+    (134, begin_at 10 382 0 6714723492931351017472) ∷
+    (136, begin_at 11 395 0 6714723492931351017472) ∷
+    (137, begin_at 12 398 0 6714723492931351017472) ∷ [])
+    ((18, (1, 348)) ∷ (20, (1, 349)) ∷ (22, (1, 350)) ∷ (24, (1, 351)) ∷ (42, (1, 467)) ∷
+    (43, (1, 353)) ∷ (45, (1, 354)) ∷ (47, (1, 468)) ∷ (50, (1, 356)) ∷ (51, (1, 357)) ∷
+    (52, (1, 358)) ∷ (57, (0, 359)) ∷ (58, (0, 360)) ∷ (59, (0, 361)) ∷ (60, (0, 362)) ∷
+    (61, (0, 363)) ∷ (62, (0, 364)) ∷ (63, (0, 365)) ∷ (66, (0, 366)) ∷ (67, (0, 367)) ∷
+    (69, (0, 368)) ∷ (70, (0, 369)) ∷ (72, (0, 370)) ∷ [])
+    ((113, 660) ∷ (115, 465) ∷ (116, 331) ∷ (117, 332) ∷ (118, 333) ∷ (119, 334) ∷ (120, 335) ∷
+    (121, 336) ∷ (122, 337) ∷ (123, 338) ∷ (124, 339) ∷ (125, 340) ∷ (126, 341) ∷ (127, 342) ∷
+    (128, 343) ∷ (129, 344) ∷ (134, 345) ∷ (136, 346) ∷ (137, 347) ∷ [])
     []
 
 -- after ProgramText ^let ^fun Variable Interface Union' ^-> ^try Expr 'with
-abbrev pub state_587 : Row
-state_587 = at
-    ((312, 3, 1180591855488918159360) ∷ [])
-    ((54, begin_at 4 310 0 128) ∷ (55, begin_at 5 141 0 2147483776) ∷
-    (56, begin_at 5 140 0 2147483776) ∷ (57, begin_at 6 145 0 7516192896) ∷
-    (58, begin_at 6 144 0 7516192896) ∷ (59, begin_at 7 151 0 7516192896) ∷
-    (61, begin_at 7 150 0 7516192896) ∷ (95, begin_at 8 281 0 7516192896) ∷
-    (103, begin_at 1 312 3 1180591855488918159360) ∷
-    (104, begin_at 2 302 0 1180591855488918159360) ∷ (105, begin_at 3 305 0 141809345341531226113) ∷
-    (106, begin_at 4 306 0 141809345341531226113) ∷ (107, begin_at 5 308 0 2147483648) ∷
-    (108, begin_at 3 304 0 1180591855488918159360) ∷ [])
-    ((0, (0, 247)) ∷ (17, (1, 248)) ∷ (19, (1, 249)) ∷ (21, (1, 250)) ∷ (23, (1, 251)) ∷
-    (31, (0, 252)) ∷ (38, (0, 253)) ∷ (60, (0, 254)) ∷ (61, (0, 255)) ∷ (63, (0, 256)) ∷
-    (64, (0, 257)) ∷ (65, (0, 258)) ∷ (66, (0, 259)) ∷ [])
-    ((54, 233) ∷ (55, 234) ∷ (56, 235) ∷ (57, 236) ∷ (58, 237) ∷ (59, 238) ∷ (61, 239) ∷ (95, 240) ∷
-    (103, 637) ∷ (104, 242) ∷ (105, 243) ∷ (106, 244) ∷ (107, 245) ∷ (108, 246) ∷ [])
+abbrev pub state_610 : Row
+state_610 = at
+    ((324, 3, 75594758153096221229056) ∷ [])
+    ((56, begin_at 4 322 0 128) ∷ (57, begin_at 5 145 0 4294967424) ∷
+    (58, begin_at 5 144 0 4294967424) ∷ (59, begin_at 6 149 0 15032385664) ∷
+    (60, begin_at 6 148 0 15032385664) ∷ (61, begin_at 7 155 0 15032385664) ∷
+    (63, begin_at 7 154 0 15032385664) ∷ (99, begin_at 8 293 0 15032385664) ∷
+    (107, begin_at 1 324 3 75594758153096221229056) ∷
+    (108, begin_at 2 314 0 75594758153096221229056) ∷
+    (109, begin_at 3 317 0 9075798085364633305089) ∷
+    (110, begin_at 4 318 0 9075798085364633305089) ∷ (111, begin_at 5 320 0 4294967296) ∷
+    (112, begin_at 3 316 0 75594758153096221229056) ∷ [])
+    ((0, (0, 259)) ∷ (18, (1, 260)) ∷ (20, (1, 261)) ∷ (22, (1, 262)) ∷ (24, (1, 263)) ∷
+    (32, (0, 264)) ∷ (40, (0, 265)) ∷ (66, (0, 266)) ∷ (67, (0, 267)) ∷ (69, (0, 268)) ∷
+    (70, (0, 269)) ∷ (71, (0, 270)) ∷ (72, (0, 271)) ∷ [])
+    ((56, 245) ∷ (57, 246) ∷ (58, 247) ∷ (59, 248) ∷ (60, 249) ∷ (61, 250) ∷ (63, 251) ∷ (99, 252) ∷
+    (107, 661) ∷ (108, 254) ∷ (109, 255) ∷ (110, 256) ∷ (111, 257) ∷ (112, 258) ∷ [])
     []
 
 -- after ProgramText ^let ^fun Variable Interface Union' ^-> ^map Expr 'with
-abbrev pub state_588 : Row
-state_588 = at
-    ((313, 3, 1180591855488918159360) ∷ [])
-    ((54, begin_at 4 310 0 128) ∷ (55, begin_at 5 141 0 2147483776) ∷
-    (56, begin_at 5 140 0 2147483776) ∷ (57, begin_at 6 145 0 7516192896) ∷
-    (58, begin_at 6 144 0 7516192896) ∷ (59, begin_at 7 151 0 7516192896) ∷
-    (61, begin_at 7 150 0 7516192896) ∷ (95, begin_at 8 281 0 7516192896) ∷
-    (103, begin_at 1 313 3 1180591855488918159360) ∷
-    (104, begin_at 2 302 0 1180591855488918159360) ∷ (105, begin_at 3 305 0 141809345341531226113) ∷
-    (106, begin_at 4 306 0 141809345341531226113) ∷ (107, begin_at 5 308 0 2147483648) ∷
-    (108, begin_at 3 304 0 1180591855488918159360) ∷ [])
-    ((0, (0, 247)) ∷ (17, (1, 248)) ∷ (19, (1, 249)) ∷ (21, (1, 250)) ∷ (23, (1, 251)) ∷
-    (31, (0, 252)) ∷ (38, (0, 253)) ∷ (60, (0, 254)) ∷ (61, (0, 255)) ∷ (63, (0, 256)) ∷
-    (64, (0, 257)) ∷ (65, (0, 258)) ∷ (66, (0, 259)) ∷ [])
-    ((54, 233) ∷ (55, 234) ∷ (56, 235) ∷ (57, 236) ∷ (58, 237) ∷ (59, 238) ∷ (61, 239) ∷ (95, 240) ∷
-    (103, 638) ∷ (104, 242) ∷ (105, 243) ∷ (106, 244) ∷ (107, 245) ∷ (108, 246) ∷ [])
+abbrev pub state_611 : Row
+state_611 = at
+    ((325, 3, 75594758153096221229056) ∷ [])
+    ((56, begin_at 4 322 0 128) ∷ (57, begin_at 5 145 0 4294967424) ∷
+    (58, begin_at 5 144 0 4294967424) ∷ (59, begin_at 6 149 0 15032385664) ∷
+    (60, begin_at 6 148 0 15032385664) ∷ (61, begin_at 7 155 0 15032385664) ∷
+    (63, begin_at 7 154 0 15032385664) ∷ (99, begin_at 8 293 0 15032385664) ∷
+    (107, begin_at 1 325 3 75594758153096221229056) ∷
+    (108, begin_at 2 314 0 75594758153096221229056) ∷
+    (109, begin_at 3 317 0 9075798085364633305089) ∷
+    (110, begin_at 4 318 0 9075798085364633305089) ∷ (111, begin_at 5 320 0 4294967296) ∷
+    (112, begin_at 3 316 0 75594758153096221229056) ∷ [])
+    ((0, (0, 259)) ∷ (18, (1, 260)) ∷ (20, (1, 261)) ∷ (22, (1, 262)) ∷ (24, (1, 263)) ∷
+    (32, (0, 264)) ∷ (40, (0, 265)) ∷ (66, (0, 266)) ∷ (67, (0, 267)) ∷ (69, (0, 268)) ∷
+    (70, (0, 269)) ∷ (71, (0, 270)) ∷ (72, (0, 271)) ∷ [])
+    ((56, 245) ∷ (57, 246) ∷ (58, 247) ∷ (59, 248) ∷ (60, 249) ∷ (61, 250) ∷ (63, 251) ∷ (99, 252) ∷
+    (107, 662) ∷ (108, 254) ∷ (109, 255) ∷ (110, 256) ∷ (111, 257) ∷ (112, 258) ∷ [])
     []
 
 -- after ProgramText ^let ^fun Variable Interface Union' ^-> ^transform Expr 'with
-abbrev pub state_589 : Row
-state_589 = at
-    ((314, 3, 1180591855488918159360) ∷ [])
-    ((54, begin_at 4 310 0 128) ∷ (55, begin_at 5 141 0 2147483776) ∷
-    (56, begin_at 5 140 0 2147483776) ∷ (57, begin_at 6 145 0 7516192896) ∷
-    (58, begin_at 6 144 0 7516192896) ∷ (59, begin_at 7 151 0 7516192896) ∷
-    (61, begin_at 7 150 0 7516192896) ∷ (95, begin_at 8 281 0 7516192896) ∷
-    (103, begin_at 1 314 3 1180591855488918159360) ∷
-    (104, begin_at 2 302 0 1180591855488918159360) ∷ (105, begin_at 3 305 0 141809345341531226113) ∷
-    (106, begin_at 4 306 0 141809345341531226113) ∷ (107, begin_at 5 308 0 2147483648) ∷
-    (108, begin_at 3 304 0 1180591855488918159360) ∷ [])
-    ((0, (0, 247)) ∷ (17, (1, 248)) ∷ (19, (1, 249)) ∷ (21, (1, 250)) ∷ (23, (1, 251)) ∷
-    (31, (0, 252)) ∷ (38, (0, 253)) ∷ (60, (0, 254)) ∷ (61, (0, 255)) ∷ (63, (0, 256)) ∷
-    (64, (0, 257)) ∷ (65, (0, 258)) ∷ (66, (0, 259)) ∷ [])
-    ((54, 233) ∷ (55, 234) ∷ (56, 235) ∷ (57, 236) ∷ (58, 237) ∷ (59, 238) ∷ (61, 239) ∷ (95, 240) ∷
-    (103, 639) ∷ (104, 242) ∷ (105, 243) ∷ (106, 244) ∷ (107, 245) ∷ (108, 246) ∷ [])
+abbrev pub state_612 : Row
+state_612 = at
+    ((326, 3, 75594758153096221229056) ∷ [])
+    ((56, begin_at 4 322 0 128) ∷ (57, begin_at 5 145 0 4294967424) ∷
+    (58, begin_at 5 144 0 4294967424) ∷ (59, begin_at 6 149 0 15032385664) ∷
+    (60, begin_at 6 148 0 15032385664) ∷ (61, begin_at 7 155 0 15032385664) ∷
+    (63, begin_at 7 154 0 15032385664) ∷ (99, begin_at 8 293 0 15032385664) ∷
+    (107, begin_at 1 326 3 75594758153096221229056) ∷
+    (108, begin_at 2 314 0 75594758153096221229056) ∷
+    (109, begin_at 3 317 0 9075798085364633305089) ∷
+    (110, begin_at 4 318 0 9075798085364633305089) ∷ (111, begin_at 5 320 0 4294967296) ∷
+    (112, begin_at 3 316 0 75594758153096221229056) ∷ [])
+    ((0, (0, 259)) ∷ (18, (1, 260)) ∷ (20, (1, 261)) ∷ (22, (1, 262)) ∷ (24, (1, 263)) ∷
+    (32, (0, 264)) ∷ (40, (0, 265)) ∷ (66, (0, 266)) ∷ (67, (0, 267)) ∷ (69, (0, 268)) ∷
+    (70, (0, 269)) ∷ (71, (0, 270)) ∷ (72, (0, 271)) ∷ [])
+    ((56, 245) ∷ (57, 246) ∷ (58, 247) ∷ (59, 248) ∷ (60, 249) ∷ (61, 250) ∷ (63, 251) ∷ (99, 252) ∷
+    (107, 663) ∷ (108, 254) ∷ (109, 255) ∷ (110, 256) ∷ (111, 257) ∷ (112, 258) ∷ [])
     []
 
 -- after ProgramText ^let ^fun Variable Interface ^( Arrow' 'where Names' 'and
-abbrev pub state_590 : Row
-state_590 = at
-    ((134, 2, 4503625401631744) ∷ [])
-    ((51, begin_at 1 134 2 4503625401631744) ∷ [])
-    ((65, (0, 483)) ∷ [])
-    ((51, 640) ∷ [])
+abbrev pub state_613 : Row
+state_613 = at
+    ((138, 2, 18015549569631232) ∷ [])
+    ((53, begin_at 1 138 2 18015549569631232) ∷ [])
+    ((71, (0, 504)) ∷ [])
+    ((53, 664) ∷ [])
     []
 
 -- after ProgramText ^let ^fun Variable Interface ^( Arrow' 'where TypeName '=
-abbrev pub state_591 : Row
-state_591 = at
-    ((135, 2, 4503625401631744) ∷ [])
-    ((52, begin_at 1 135 2 4503625401631744) ∷ (53, begin_at 2 137 0 4503625401631744) ∷
-    (54, begin_at 2 136 0 4503625401631872) ∷ (55, begin_at 3 141 0 4503627549115520) ∷
-    (56, begin_at 3 140 0 4503627549115520) ∷ (57, begin_at 4 145 0 4503632917824640) ∷
-    (58, begin_at 4 144 0 4503632917824640) ∷ (59, begin_at 5 151 0 4503632917824640) ∷
-    (61, begin_at 5 150 0 4503632917824640) ∷ (95, begin_at 6 281 0 4503632917824640) ∷ [])
-    ((0, (0, 247)) ∷ (17, (1, 248)) ∷ (19, (1, 249)) ∷ (21, (1, 250)) ∷ (23, (1, 251)) ∷
-    (38, (0, 253)) ∷ (60, (0, 254)) ∷ (61, (0, 255)) ∷ (63, (0, 256)) ∷ (64, (0, 257)) ∷
-    (65, (0, 258)) ∷ (66, (0, 259)) ∷ [])
-    ((52, 641) ∷ (53, 276) ∷ (54, 277) ∷ (55, 234) ∷ (56, 235) ∷ (57, 236) ∷ (58, 237) ∷ (59, 238) ∷
-    (61, 239) ∷ (95, 240) ∷ [])
+abbrev pub state_614 : Row
+state_614 = at
+    ((139, 2, 18015549569631232) ∷ [])
+    ((54, begin_at 1 139 2 18015549569631232) ∷ (55, begin_at 2 141 0 18015549569631232) ∷
+    (56, begin_at 2 140 0 18015549569631360) ∷ (57, begin_at 3 145 0 18015553864598656) ∷
+    (58, begin_at 3 144 0 18015553864598656) ∷ (59, begin_at 4 149 0 18015564602016896) ∷
+    (60, begin_at 4 148 0 18015564602016896) ∷ (61, begin_at 5 155 0 18015564602016896) ∷
+    (63, begin_at 5 154 0 18015564602016896) ∷ (99, begin_at 6 293 0 18015564602016896) ∷ [])
+    ((0, (0, 259)) ∷ (18, (1, 260)) ∷ (20, (1, 261)) ∷ (22, (1, 262)) ∷ (24, (1, 263)) ∷
+    (40, (0, 265)) ∷ (66, (0, 266)) ∷ (67, (0, 267)) ∷ (69, (0, 268)) ∷ (70, (0, 269)) ∷
+    (71, (0, 270)) ∷ (72, (0, 271)) ∷ [])
+    ((54, 665) ∷ (55, 288) ∷ (56, 289) ∷ (57, 246) ∷ (58, 247) ∷ (59, 248) ∷ (60, 249) ∷ (61, 250) ∷
+    (63, 251) ∷ (99, 252) ∷ [])
     []
 
 -- after ProgramText ^let ^fun Variable Interface ^( Variable ':= Constant ')
-abbrev pub state_592 : Row
-state_592 = at
-    ((283, 5, 147573952348621243549) ∷ [])
-    []
-    []
-    []
-    ((283, 147573952348621243549) ∷ [])
-
--- after ProgramText ^let ^fun Variable Interface ^( Variable ':= ^[ ']
-abbrev pub state_593 : Row
-state_593 = at
-    ((288, 2, 262144) ∷ [])
-    []
-    []
-    []
-    ((288, 262144) ∷ [])
-
--- after ProgramText ^let ^fun Variable Interface ^[ ^( GAlts' '| GSeq'
-abbrev pub state_594 : Row
-state_594 = at
-    ((216, 3, 2147745792) ∷ [])
-    []
-    []
-    []
-    ((216, 2147745792) ∷ [])
-
--- after ProgramText ^let ^fun Variable Interface ^[ ^( GAlts' '| IItem'
-abbrev pub state_595 : Row
-state_595 = at
-    ((217, 3, 2147745792) ∷ (221, 1, 146421031362106359809) ∷ (225, 1, 146421031362106359809) ∷ [])
-    ((61, begin_at 5 232 0 146421031367944831005) ∷ (74, begin_at 1 221 1 146421031362106359809) ∷
-    (75, begin_at 2 204 0 146421031362576121885) ∷ (76, begin_at 3 207 0 146421031362576121885) ∷
-    (82, begin_at 3 206 0 146421031362576121885) ∷ (83, begin_at 4 227 0 146421031367944831005) ∷
-    (84, begin_at 4 226 0 146421031367944831005) ∷ (85, begin_at 5 234 0 146421031367944831005) ∷
-    (93, begin_at 1 225 1 146421031362106359809) ∷ (95, begin_at 6 282 0 146421031367944831005) ∷
-    [])
-    ((0, (0, 247)) ∷ (2, (0, 125)) ∷ (3, (0, 126)) ∷ (4, (0, 127)) ∷ (17, (1, 293)) ∷
-    (19, (1, 249)) ∷ (21, (1, 250)) ∷ (23, (1, 251)) ∷ (26, (0, 128)) ∷ (27, (0, 129)) ∷
-    (28, (0, 130)) ∷ (38, (0, 253)) ∷ (60, (0, 254)) ∷ (61, (0, 255)) ∷ (62, (0, 295)) ∷
-    (63, (0, 256)) ∷ (64, (0, 257)) ∷ (65, (0, 258)) ∷ (66, (0, 296)) ∷ [])
-    ((61, 280) ∷ (74, 505) ∷ (75, 286) ∷ (76, 287) ∷ (82, 288) ∷ (83, 289) ∷ (84, 290) ∷ (85, 291) ∷
-    (93, 506) ∷ (95, 292) ∷ [])
-    ((217, 2147745792) ∷ [])
-
--- after ProgramText ^let ^fun Variable Interface ^[ ^( GAlts' '| Variable
-abbrev pub state_596 : Row
-state_596 = at
-    ((280, 1, 146423283176348450973) ∷ (290, 1, 146421031362106359809) ∷ [])
-    []
-    ((8, (1, 517)) ∷ [])
-    []
-    ((280, 146423283176348450973) ∷ [])
-
--- after ProgramText ^let ^fun Variable Interface ^[ ^( GSeq' '| GSeq'
-abbrev pub state_597 : Row
-state_597 = at
-    ((212, 3, 2147745792) ∷ [])
-    []
-    []
-    []
-    ((212, 2147745792) ∷ [])
-
--- after ProgramText ^let ^fun Variable Interface ^[ ^( GSeq' '| IItem'
-abbrev pub state_598 : Row
-state_598 = at
-    ((213, 3, 2147745792) ∷ (221, 1, 146421031362106359809) ∷ (225, 1, 146421031362106359809) ∷ [])
-    ((61, begin_at 5 232 0 146421031367944831005) ∷ (74, begin_at 1 221 1 146421031362106359809) ∷
-    (75, begin_at 2 204 0 146421031362576121885) ∷ (76, begin_at 3 207 0 146421031362576121885) ∷
-    (82, begin_at 3 206 0 146421031362576121885) ∷ (83, begin_at 4 227 0 146421031367944831005) ∷
-    (84, begin_at 4 226 0 146421031367944831005) ∷ (85, begin_at 5 234 0 146421031367944831005) ∷
-    (93, begin_at 1 225 1 146421031362106359809) ∷ (95, begin_at 6 282 0 146421031367944831005) ∷
-    [])
-    ((0, (0, 247)) ∷ (2, (0, 125)) ∷ (3, (0, 126)) ∷ (4, (0, 127)) ∷ (17, (1, 293)) ∷
-    (19, (1, 249)) ∷ (21, (1, 250)) ∷ (23, (1, 251)) ∷ (26, (0, 128)) ∷ (27, (0, 129)) ∷
-    (28, (0, 130)) ∷ (38, (0, 253)) ∷ (60, (0, 254)) ∷ (61, (0, 255)) ∷ (62, (0, 295)) ∷
-    (63, (0, 256)) ∷ (64, (0, 257)) ∷ (65, (0, 258)) ∷ (66, (0, 296)) ∷ [])
-    ((61, 280) ∷ (74, 505) ∷ (75, 286) ∷ (76, 287) ∷ (82, 288) ∷ (83, 289) ∷ (84, 290) ∷ (85, 291) ∷
-    (93, 506) ∷ (95, 292) ∷ [])
-    ((213, 2147745792) ∷ [])
-
--- after ProgramText ^let ^fun Variable Interface ^[ ^( IItem' '| GSeq'
-abbrev pub state_599 : Row
-state_599 = at
-    ((214, 3, 2147745792) ∷ [])
-    []
-    []
-    []
-    ((214, 2147745792) ∷ [])
-
--- after ProgramText ^let ^fun Variable Interface ^[ ^( IItem' '| IItem'
-abbrev pub state_600 : Row
-state_600 = at
-    ((221, 1, 146421031362106359809) ∷ (225, 1, 146421031362106359809) ∷
-    (249, 3, 2251810551365760) ∷ [])
-    ((61, begin_at 5 232 0 146421031367944831005) ∷ (74, begin_at 1 221 1 146421031362106359809) ∷
-    (75, begin_at 2 204 0 146421031362576121885) ∷ (76, begin_at 3 207 0 146421031362576121885) ∷
-    (82, begin_at 3 206 0 146421031362576121885) ∷ (83, begin_at 4 227 0 146421031367944831005) ∷
-    (84, begin_at 4 226 0 146421031367944831005) ∷ (85, begin_at 5 234 0 146421031367944831005) ∷
-    (93, begin_at 1 225 1 146421031362106359809) ∷ (95, begin_at 6 282 0 146421031367944831005) ∷
-    [])
-    ((0, (0, 247)) ∷ (2, (0, 125)) ∷ (3, (0, 126)) ∷ (4, (0, 127)) ∷ (17, (1, 293)) ∷
-    (19, (1, 249)) ∷ (21, (1, 250)) ∷ (23, (1, 251)) ∷ (26, (0, 128)) ∷ (27, (0, 129)) ∷
-    (28, (0, 130)) ∷ (38, (0, 253)) ∷ (60, (0, 254)) ∷ (61, (0, 255)) ∷ (62, (0, 295)) ∷
-    (63, (0, 256)) ∷ (64, (0, 257)) ∷ (65, (0, 258)) ∷ (66, (0, 296)) ∷ [])
-    ((61, 280) ∷ (74, 505) ∷ (75, 286) ∷ (76, 287) ∷ (82, 288) ∷ (83, 289) ∷ (84, 290) ∷ (85, 291) ∷
-    (93, 506) ∷ (95, 292) ∷ [])
-    ((249, 2251810551365760) ∷ [])
-
--- after ProgramText ^let ^fun Variable Interface ^[ ^( ITrees' ', Tree'
-abbrev pub state_601 : Row
-state_601 = at
-    ((238, 3, 8590196736) ∷ [])
-    []
-    []
-    []
-    ((238, 8590196736) ∷ [])
-
--- after ProgramText ^let ^fun Variable Interface ^[ ^( ITree' ', Tree'
-abbrev pub state_602 : Row
-state_602 = at
-    ((237, 3, 8590196736) ∷ [])
-    []
-    []
-    []
-    ((237, 8590196736) ∷ [])
-
--- after ProgramText ^let ^fun Variable Interface ^[ ^( IArrow' 'where Names'
-abbrev pub state_603 : Row
-state_603 = at
-    ((134, 1, 4503608217567232) ∷ (242, 3, 8590196736) ∷ [])
-    []
-    ((52, (0, 590)) ∷ [])
-    []
-    ((242, 8590196736) ∷ [])
-
--- after ProgramText ^let ^fun Variable Interface ^[ ^( IUnion' ^-> Arrows'
-abbrev pub state_604 : Row
-state_604 = at
-    ((246, 3, 2251808403881984) ∷ [])
-    []
-    []
-    []
-    ((246, 2251808403881984) ∷ [])
-
--- after ProgramText ^let ^fun Variable Interface ^[ ^( IUnion' ^-> Union'
-abbrev pub state_605 : Row
-state_605 = at
-    ((138, 1, 2251808403881984) ∷ (139, 1, 2251808403881984) ∷ (245, 3, 2251808403881984) ∷ [])
-    []
-    ((7, (1, 365)) ∷ [])
-    []
-    ((245, 2251808403881984) ∷ [])
-
--- after ProgramText ^let ^fun Variable Interface ^[ ^( IUnion' 'where Names'
-abbrev pub state_606 : Row
-state_606 = at
-    ((134, 1, 4503608217567232) ∷ (243, 3, 8590196736) ∷ [])
-    []
-    ((52, (0, 590)) ∷ [])
-    []
-    ((243, 8590196736) ∷ [])
-
--- after ProgramText ^let ^fun Variable Interface ^[ ^( IAlts' '| GSeq'
-abbrev pub state_607 : Row
-state_607 = at
-    ((215, 3, 2147745792) ∷ [])
-    []
-    []
-    []
-    ((215, 2147745792) ∷ [])
-
--- after ProgramText ^let ^fun Variable Interface ^[ ^( IAlts' '| IItem'
-abbrev pub state_608 : Row
-state_608 = at
-    ((221, 1, 146421031362106359809) ∷ (225, 1, 146421031362106359809) ∷
-    (250, 3, 2251810551365760) ∷ [])
-    ((61, begin_at 5 232 0 146421031367944831005) ∷ (74, begin_at 1 221 1 146421031362106359809) ∷
-    (75, begin_at 2 204 0 146421031362576121885) ∷ (76, begin_at 3 207 0 146421031362576121885) ∷
-    (82, begin_at 3 206 0 146421031362576121885) ∷ (83, begin_at 4 227 0 146421031367944831005) ∷
-    (84, begin_at 4 226 0 146421031367944831005) ∷ (85, begin_at 5 234 0 146421031367944831005) ∷
-    (93, begin_at 1 225 1 146421031362106359809) ∷ (95, begin_at 6 282 0 146421031367944831005) ∷
-    [])
-    ((0, (0, 247)) ∷ (2, (0, 125)) ∷ (3, (0, 126)) ∷ (4, (0, 127)) ∷ (17, (1, 293)) ∷
-    (19, (1, 249)) ∷ (21, (1, 250)) ∷ (23, (1, 251)) ∷ (26, (0, 128)) ∷ (27, (0, 129)) ∷
-    (28, (0, 130)) ∷ (38, (0, 253)) ∷ (60, (0, 254)) ∷ (61, (0, 255)) ∷ (62, (0, 295)) ∷
-    (63, (0, 256)) ∷ (64, (0, 257)) ∷ (65, (0, 258)) ∷ (66, (0, 296)) ∷ [])
-    ((61, 280) ∷ (74, 505) ∷ (75, 286) ∷ (76, 287) ∷ (82, 288) ∷ (83, 289) ∷ (84, 290) ∷ (85, 291) ∷
-    (93, 506) ∷ (95, 292) ∷ [])
-    ((250, 2251810551365760) ∷ [])
-
--- after ProgramText ^let ^fun Variable Interface ^[ ^( Variable ^:: RPost'
-abbrev pub state_609 : Row
-state_609 = at
-    ((290, 3, 146421031362106359809) ∷ [])
-    []
-    []
-    []
-    ((290, 146421031362106359809) ∷ [])
-
--- after ProgramText ^let ^fun Variable Interface ^< Tag' Attrs' '> Simple'
-abbrev pub state_610 : Row
-state_610 = at
-    ((171, 5, 147573952348621243549) ∷ [])
-    []
-    []
-    []
-    ((171, 147573952348621243549) ∷ [])
-
--- after ProgramText ^let ^fun Variable Interface ^< Tag' AttrList' '; Attr'
-abbrev pub state_611 : Row
-state_611 = at
-    ((193, 3, 111833385414304990208) ∷ [])
-    []
-    []
-    []
-    ((193, 111833385414304990208) ∷ [])
-
--- after ProgramText ^let ^fun Variable Interface ^< Tag' AttrList' '; '..
-abbrev pub state_612 : Row
-state_612 = at
-    ((190, 3, 16777216) ∷ [])
-    []
-    []
-    []
-    ((190, 16777216) ∷ [])
-
--- after ProgramText ^let ^fun Variable Interface ^< Tag' Label '=? Simple'
-abbrev pub state_613 : Row
-state_613 = at
-    ((195, 3, 111833385414304990208) ∷ [])
-    []
-    []
-    []
-    ((195, 111833385414304990208) ∷ [])
-
--- after ProgramText ^let ^fun Variable Interface ^< Tag' Label '= Simple'
-abbrev pub state_614 : Row
-state_614 = at
-    ((194, 3, 111833385414304990208) ∷ [])
-    []
-    []
-    []
-    ((194, 111833385414304990208) ∷ [])
-
--- after ProgramText ^let ^fun Variable Interface ^< Tag' ^( Tree' ')
 abbrev pub state_615 : Row
 state_615 = at
-    ((185, 3, 16777216) ∷ [])
+    ((295, 5, 9444732964707424273565) ∷ [])
     []
     []
     []
-    ((185, 16777216) ∷ [])
+    ((295, 9444732964707424273565) ∷ [])
 
--- after ProgramText ^let ^fun Variable Interface Union' ^-> Posts NSelects '. Label
+-- after ProgramText ^let ^fun Variable Interface ^( Variable ':= ^[ ']
 abbrev pub state_616 : Row
 state_616 = at
-    ((375, 3, 1285534734181926434816) ∷ [])
+    ((300, 2, 524288) ∷ [])
     []
     []
     []
-    ((375, 1285534734181926434816) ∷ [])
+    ((300, 524288) ∷ [])
 
--- after ProgramText ^let ^fun Variable Interface Union' ^-> Posts NBase '. Label
+-- after ProgramText ^let ^fun Variable Interface ^[ ^( GAlts' '| GSeq'
 abbrev pub state_617 : Row
 state_617 = at
-    ((374, 3, 1285534734181926434816) ∷ [])
+    ((224, 3, 4295491584) ∷ [])
     []
     []
     []
-    ((374, 1285534734181926434816) ∷ [])
+    ((224, 4295491584) ∷ [])
 
--- after ProgramText ^let ^fun Variable Interface Union' ^-> ^( Expr ', Expr
+-- after ProgramText ^let ^fun Variable Interface ^[ ^( GAlts' '| IItem'
 abbrev pub state_618 : Row
 state_618 = at
-    ((397, 3, 8590196736) ∷ [])
-    []
-    []
-    []
-    ((397, 8590196736) ∷ [])
+    ((225, 3, 4295491584) ∷ (229, 1, 9370945990548281622529) ∷ (233, 1, 9370945990548281622529) ∷
+    [])
+    ((63, begin_at 5 240 0 9370945990559958564893) ∷ (78, begin_at 1 229 1 9370945990548281622529) ∷
+    (79, begin_at 2 212 0 9370945990549221146653) ∷ (80, begin_at 3 215 0 9370945990549221146653) ∷
+    (86, begin_at 3 214 0 9370945990549221146653) ∷ (87, begin_at 4 235 0 9370945990559958564893) ∷
+    (88, begin_at 4 234 0 9370945990559958564893) ∷ (89, begin_at 5 242 0 9370945990559958564893) ∷
+    (97, begin_at 1 233 1 9370945990548281622529) ∷ (99, begin_at 6 294 0 9370945990559958564893) ∷
+    [])
+    ((0, (0, 259)) ∷ (2, (0, 131)) ∷ (3, (0, 132)) ∷ (4, (0, 133)) ∷ (18, (1, 305)) ∷
+    (20, (1, 261)) ∷ (22, (1, 262)) ∷ (24, (1, 263)) ∷ (27, (0, 134)) ∷ (28, (0, 135)) ∷
+    (29, (0, 136)) ∷ (40, (0, 265)) ∷ (66, (0, 266)) ∷ (67, (0, 267)) ∷ (68, (0, 307)) ∷
+    (69, (0, 268)) ∷ (70, (0, 269)) ∷ (71, (0, 270)) ∷ (72, (0, 308)) ∷ [])
+    ((63, 292) ∷ (78, 526) ∷ (79, 298) ∷ (80, 299) ∷ (86, 300) ∷ (87, 301) ∷ (88, 302) ∷ (89, 303) ∷
+    (97, 527) ∷ (99, 304) ∷ [])
+    ((225, 4295491584) ∷ [])
 
--- after ProgramText ^let ^fun Variable Interface Union' ^-> ^( Exprs ', Expr
+-- after ProgramText ^let ^fun Variable Interface ^[ ^( GAlts' '| Variable
 abbrev pub state_619 : Row
 state_619 = at
-    ((398, 3, 8590196736) ∷ [])
+    ((292, 1, 9370954997776393175197) ∷ (302, 1, 9370945990548281622529) ∷ [])
     []
+    ((8, (1, 538)) ∷ [])
     []
-    []
-    ((398, 8590196736) ∷ [])
+    ((292, 9370954997776393175197) ∷ [])
 
--- after ProgramText ^let ^fun Variable Interface Union' ^-> ^( ^let Union' '=
+-- after ProgramText ^let ^fun Variable Interface ^[ ^( GSeq' '| GSeq'
 abbrev pub state_620 : Row
 state_620 = at
-    ((317, 3, 233122239348736) ∷ [])
-    ((109, begin_at 1 317 3 4398046511104) ∷ (111, begin_at 2 319 0 4398046511104) ∷
-    (112, begin_at 3 324 0 4398046543872) ∷ (113, begin_at 3 323 0 4398046543872) ∷
-    (114, begin_at 4 328 0 4398046560256) ∷ (115, begin_at 4 327 0 4398046560256) ∷
-    (116, begin_at 5 332 0 4398046560256) ∷ (117, begin_at 5 331 0 4398105294848) ∷
-    (118, begin_at 6 340 0 4535544248320) ∷ (119, begin_at 6 339 0 4535544248320) ∷
-    (120, begin_at 7 344 0 4537423296512) ∷ (121, begin_at 7 343 0 4537423296512) ∷
-    (122, begin_at 8 352 0 27026135321737216) ∷ (123, begin_at 8 351 0 27026135321737216) ∷
-    (124, begin_at 9 365 0 104942883054547564544) ∷ (125, begin_at 9 364 0 104942883054547564544) ∷
-    (126, begin_at 10 369 0 104942883088907302912) ∷
-    (131, begin_at 10 368 0 104942883088907302912) ∷
-    (133, begin_at 11 381 0 104942883088907302912) ∷
-    (134, begin_at 12 384 0 104942883088907302912) ∷ [])
-    ((17, (1, 335)) ∷ (19, (1, 336)) ∷ (21, (1, 337)) ∷ (23, (1, 338)) ∷ (40, (1, 448)) ∷
-    (41, (1, 340)) ∷ (43, (1, 341)) ∷ (45, (1, 449)) ∷ (48, (1, 343)) ∷ (49, (1, 344)) ∷
-    (50, (1, 345)) ∷ (55, (0, 346)) ∷ (56, (0, 347)) ∷ (57, (0, 348)) ∷ (58, (0, 349)) ∷
-    (59, (0, 350)) ∷ (60, (0, 351)) ∷ (61, (0, 352)) ∷ (63, (0, 353)) ∷ (64, (0, 354)) ∷
-    (66, (0, 355)) ∷ [])
-    ((109, 642) ∷ (111, 446) ∷ (112, 317) ∷ (113, 318) ∷ (114, 319) ∷ (115, 320) ∷ (116, 321) ∷
-    (117, 322) ∷ (118, 323) ∷ (119, 324) ∷ (120, 325) ∷ (121, 326) ∷ (122, 327) ∷ (123, 328) ∷
-    (124, 329) ∷ (125, 330) ∷ (126, 331) ∷ (131, 332) ∷ (133, 333) ∷ (134, 334) ∷ [])
+    ((220, 3, 4295491584) ∷ [])
+    []
+    []
+    []
+    ((220, 4295491584) ∷ [])
+
+-- after ProgramText ^let ^fun Variable Interface ^[ ^( GSeq' '| IItem'
+abbrev pub state_621 : Row
+state_621 = at
+    ((221, 3, 4295491584) ∷ (229, 1, 9370945990548281622529) ∷ (233, 1, 9370945990548281622529) ∷
+    [])
+    ((63, begin_at 5 240 0 9370945990559958564893) ∷ (78, begin_at 1 229 1 9370945990548281622529) ∷
+    (79, begin_at 2 212 0 9370945990549221146653) ∷ (80, begin_at 3 215 0 9370945990549221146653) ∷
+    (86, begin_at 3 214 0 9370945990549221146653) ∷ (87, begin_at 4 235 0 9370945990559958564893) ∷
+    (88, begin_at 4 234 0 9370945990559958564893) ∷ (89, begin_at 5 242 0 9370945990559958564893) ∷
+    (97, begin_at 1 233 1 9370945990548281622529) ∷ (99, begin_at 6 294 0 9370945990559958564893) ∷
+    [])
+    ((0, (0, 259)) ∷ (2, (0, 131)) ∷ (3, (0, 132)) ∷ (4, (0, 133)) ∷ (18, (1, 305)) ∷
+    (20, (1, 261)) ∷ (22, (1, 262)) ∷ (24, (1, 263)) ∷ (27, (0, 134)) ∷ (28, (0, 135)) ∷
+    (29, (0, 136)) ∷ (40, (0, 265)) ∷ (66, (0, 266)) ∷ (67, (0, 267)) ∷ (68, (0, 307)) ∷
+    (69, (0, 268)) ∷ (70, (0, 269)) ∷ (71, (0, 270)) ∷ (72, (0, 308)) ∷ [])
+    ((63, 292) ∷ (78, 526) ∷ (79, 298) ∷ (80, 299) ∷ (86, 300) ∷ (87, 301) ∷ (88, 302) ∷ (89, 303) ∷
+    (97, 527) ∷ (99, 304) ∷ [])
+    ((221, 4295491584) ∷ [])
+
+-- after ProgramText ^let ^fun Variable Interface ^[ ^( IItem' '| GSeq'
+abbrev pub state_622 : Row
+state_622 = at
+    ((222, 3, 4295491584) ∷ [])
+    []
+    []
+    []
+    ((222, 4295491584) ∷ [])
+
+-- after ProgramText ^let ^fun Variable Interface ^[ ^( IItem' '| IItem'
+abbrev pub state_623 : Row
+state_623 = at
+    ((229, 1, 9370945990548281622529) ∷ (233, 1, 9370945990548281622529) ∷
+    (257, 3, 9007220730101888) ∷ [])
+    ((63, begin_at 5 240 0 9370945990559958564893) ∷ (78, begin_at 1 229 1 9370945990548281622529) ∷
+    (79, begin_at 2 212 0 9370945990549221146653) ∷ (80, begin_at 3 215 0 9370945990549221146653) ∷
+    (86, begin_at 3 214 0 9370945990549221146653) ∷ (87, begin_at 4 235 0 9370945990559958564893) ∷
+    (88, begin_at 4 234 0 9370945990559958564893) ∷ (89, begin_at 5 242 0 9370945990559958564893) ∷
+    (97, begin_at 1 233 1 9370945990548281622529) ∷ (99, begin_at 6 294 0 9370945990559958564893) ∷
+    [])
+    ((0, (0, 259)) ∷ (2, (0, 131)) ∷ (3, (0, 132)) ∷ (4, (0, 133)) ∷ (18, (1, 305)) ∷
+    (20, (1, 261)) ∷ (22, (1, 262)) ∷ (24, (1, 263)) ∷ (27, (0, 134)) ∷ (28, (0, 135)) ∷
+    (29, (0, 136)) ∷ (40, (0, 265)) ∷ (66, (0, 266)) ∷ (67, (0, 267)) ∷ (68, (0, 307)) ∷
+    (69, (0, 268)) ∷ (70, (0, 269)) ∷ (71, (0, 270)) ∷ (72, (0, 308)) ∷ [])
+    ((63, 292) ∷ (78, 526) ∷ (79, 298) ∷ (80, 299) ∷ (86, 300) ∷ (87, 301) ∷ (88, 302) ∷ (89, 303) ∷
+    (97, 527) ∷ (99, 304) ∷ [])
+    ((257, 9007220730101888) ∷ [])
+
+-- after ProgramText ^let ^fun Variable Interface ^[ ^( ITrees' ', Tree'
+abbrev pub state_624 : Row
+state_624 = at
+    ((246, 3, 17180393472) ∷ [])
+    []
+    []
+    []
+    ((246, 17180393472) ∷ [])
+
+-- after ProgramText ^let ^fun Variable Interface ^[ ^( ITree' ', Tree'
+abbrev pub state_625 : Row
+state_625 = at
+    ((245, 3, 17180393472) ∷ [])
+    []
+    []
+    []
+    ((245, 17180393472) ∷ [])
+
+-- after ProgramText ^let ^fun Variable Interface ^[ ^( IArrow' 'where Names'
+abbrev pub state_626 : Row
+state_626 = at
+    ((138, 1, 18014415689875456) ∷ (250, 3, 17180393472) ∷ [])
+    []
+    ((54, (0, 613)) ∷ [])
+    []
+    ((250, 17180393472) ∷ [])
+
+-- after ProgramText ^let ^fun Variable Interface ^[ ^( IUnion' ^-> Arrows'
+abbrev pub state_627 : Row
+state_627 = at
+    ((254, 3, 9007216435134464) ∷ [])
+    []
+    []
+    []
+    ((254, 9007216435134464) ∷ [])
+
+-- after ProgramText ^let ^fun Variable Interface ^[ ^( IUnion' ^-> Union'
+abbrev pub state_628 : Row
+state_628 = at
+    ((142, 1, 9007216435134464) ∷ (143, 1, 9007216435134464) ∷ (253, 3, 9007216435134464) ∷ [])
+    []
+    ((7, (1, 380)) ∷ [])
+    []
+    ((253, 9007216435134464) ∷ [])
+
+-- after ProgramText ^let ^fun Variable Interface ^[ ^( IUnion' 'where Names'
+abbrev pub state_629 : Row
+state_629 = at
+    ((138, 1, 18014415689875456) ∷ (251, 3, 17180393472) ∷ [])
+    []
+    ((54, (0, 613)) ∷ [])
+    []
+    ((251, 17180393472) ∷ [])
+
+-- after ProgramText ^let ^fun Variable Interface ^[ ^( IAlts' '| GSeq'
+abbrev pub state_630 : Row
+state_630 = at
+    ((223, 3, 4295491584) ∷ [])
+    []
+    []
+    []
+    ((223, 4295491584) ∷ [])
+
+-- after ProgramText ^let ^fun Variable Interface ^[ ^( IAlts' '| IItem'
+abbrev pub state_631 : Row
+state_631 = at
+    ((229, 1, 9370945990548281622529) ∷ (233, 1, 9370945990548281622529) ∷
+    (258, 3, 9007220730101888) ∷ [])
+    ((63, begin_at 5 240 0 9370945990559958564893) ∷ (78, begin_at 1 229 1 9370945990548281622529) ∷
+    (79, begin_at 2 212 0 9370945990549221146653) ∷ (80, begin_at 3 215 0 9370945990549221146653) ∷
+    (86, begin_at 3 214 0 9370945990549221146653) ∷ (87, begin_at 4 235 0 9370945990559958564893) ∷
+    (88, begin_at 4 234 0 9370945990559958564893) ∷ (89, begin_at 5 242 0 9370945990559958564893) ∷
+    (97, begin_at 1 233 1 9370945990548281622529) ∷ (99, begin_at 6 294 0 9370945990559958564893) ∷
+    [])
+    ((0, (0, 259)) ∷ (2, (0, 131)) ∷ (3, (0, 132)) ∷ (4, (0, 133)) ∷ (18, (1, 305)) ∷
+    (20, (1, 261)) ∷ (22, (1, 262)) ∷ (24, (1, 263)) ∷ (27, (0, 134)) ∷ (28, (0, 135)) ∷
+    (29, (0, 136)) ∷ (40, (0, 265)) ∷ (66, (0, 266)) ∷ (67, (0, 267)) ∷ (68, (0, 307)) ∷
+    (69, (0, 268)) ∷ (70, (0, 269)) ∷ (71, (0, 270)) ∷ (72, (0, 308)) ∷ [])
+    ((63, 292) ∷ (78, 526) ∷ (79, 298) ∷ (80, 299) ∷ (86, 300) ∷ (87, 301) ∷ (88, 302) ∷ (89, 303) ∷
+    (97, 527) ∷ (99, 304) ∷ [])
+    ((258, 9007220730101888) ∷ [])
+
+-- after ProgramText ^let ^fun Variable Interface ^[ ^( Variable ^:: RPost'
+abbrev pub state_632 : Row
+state_632 = at
+    ((302, 3, 9370945990548281622529) ∷ [])
+    []
+    []
+    []
+    ((302, 9370945990548281622529) ∷ [])
+
+-- after ProgramText ^let ^fun Variable Interface ^< Tag' Attrs' '> Simple'
+abbrev pub state_633 : Row
+state_633 = at
+    ((175, 5, 9444732964707424273565) ∷ [])
+    []
+    []
+    []
+    ((175, 9444732964707424273565) ∷ [])
+
+-- after ProgramText ^let ^fun Variable Interface ^< Tag' AttrList' '; AttrOthers'
+abbrev pub state_634 : Row
+state_634 = at
+    ((196, 3, 33554432) ∷ [])
+    []
+    []
+    []
+    ((196, 33554432) ∷ [])
+
+-- after ProgramText ^let ^fun Variable Interface ^< Tag' AttrList' '; Attr'
+abbrev pub state_635 : Row
+state_635 = at
+    ((201, 3, 7157336699534187693056) ∷ [])
+    []
+    []
+    []
+    ((201, 7157336699534187693056) ∷ [])
+
+-- after ProgramText ^let ^fun Variable Interface ^< Tag' Label '=? Simple'
+abbrev pub state_636 : Row
+state_636 = at
+    ((203, 3, 7157336699534187693056) ∷ [])
+    []
+    []
+    []
+    ((203, 7157336699534187693056) ∷ [])
+
+-- after ProgramText ^let ^fun Variable Interface ^< Tag' Label '= Simple'
+abbrev pub state_637 : Row
+state_637 = at
+    ((202, 3, 7157336699534187693056) ∷ [])
+    []
+    []
+    []
+    ((202, 7157336699534187693056) ∷ [])
+
+-- after ProgramText ^let ^fun Variable Interface ^< Tag' ^( Tree' ')
+abbrev pub state_638 : Row
+state_638 = at
+    ((191, 3, 33554432) ∷ [])
+    []
+    []
+    []
+    ((191, 33554432) ∷ [])
+
+-- after ProgramText ^let ^fun Variable Interface ^< Tag' '_ '=? Simple'
+abbrev pub state_639 : Row
+state_639 = at
+    ((198, 3, 33554432) ∷ [])
+    []
+    []
+    []
+    ((198, 33554432) ∷ [])
+
+-- after ProgramText ^let ^fun Variable Interface Union' ^-> Base ^/@ Label Steps
+abbrev pub state_640 : Row
+state_640 = at
+    ((393, 3, 85002596690339219503104) ∷ [])
+    []
+    []
+    []
+    ((393, 85002596690339219503104) ∷ [])
+
+-- after ProgramText ^let ^fun Variable Interface Union' ^-> Base '. Label Steps
+abbrev pub state_641 : Row
+state_641 = at
+    ((389, 3, 85002596690339219503104) ∷ [])
+    []
+    []
+    []
+    ((389, 85002596690339219503104) ∷ [])
+
+-- after ProgramText ^let ^fun Variable Interface Union' ^-> Base ^/ Label Steps
+abbrev pub state_642 : Row
+state_642 = at
+    ((391, 3, 85002596690339219503104) ∷ [])
+    []
+    []
+    []
+    ((391, 85002596690339219503104) ∷ [])
+
+-- after ProgramText ^let ^fun Variable Interface Union' ^-> ^( Expr ', Expr
+abbrev pub state_643 : Row
+state_643 = at
+    ((415, 3, 17180393472) ∷ [])
+    []
+    []
+    []
+    ((415, 17180393472) ∷ [])
+
+-- after ProgramText ^let ^fun Variable Interface Union' ^-> ^( Exprs ', Expr
+abbrev pub state_644 : Row
+state_644 = at
+    ((416, 3, 17180393472) ∷ [])
+    []
+    []
+    []
+    ((416, 17180393472) ∷ [])
+
+-- after ProgramText ^let ^fun Variable Interface Union' ^-> ^( ^let Union' '=
+abbrev pub state_645 : Row
+state_645 = at
+    ((329, 3, 36894420584827977728) ∷ [])
+    ((113, begin_at 1 329 3 17592186044416) ∷ (115, begin_at 2 331 0 17592186044416) ∷
+    (116, begin_at 3 336 0 17592186077184) ∷ (117, begin_at 3 335 0 17592186077184) ∷
+    (118, begin_at 4 340 0 17592186093568) ∷ (119, begin_at 4 339 0 17592186093568) ∷
+    (120, begin_at 5 344 0 17592186093568) ∷ (121, begin_at 5 343 0 17592303548416) ∷
+    (122, begin_at 6 352 0 18142059362304) ∷ (123, begin_at 6 351 0 18142059362304) ∷
+    (124, begin_at 7 356 0 18145817458688) ∷ (125, begin_at 7 355 0 18145817458688) ∷
+    (126, begin_at 8 364 0 108104537142786048) ∷ (127, begin_at 8 363 0 108104537142786048) ∷
+    (128, begin_at 9 379 0 6714722947367425079296) ∷
+    (129, begin_at 9 378 0 6714722947367425079296) ∷
+    (134, begin_at 10 382 0 6714722947573583640576) ∷
+    (136, begin_at 11 395 0 6714722947573583640576) ∷
+    (137, begin_at 12 398 0 6714722947573583640576) ∷ [])
+    ((18, (1, 348)) ∷ (20, (1, 349)) ∷ (22, (1, 350)) ∷ (24, (1, 351)) ∷ (42, (1, 467)) ∷
+    (43, (1, 353)) ∷ (45, (1, 354)) ∷ (47, (1, 468)) ∷ (50, (1, 356)) ∷ (51, (1, 357)) ∷
+    (52, (1, 358)) ∷ (57, (0, 359)) ∷ (58, (0, 360)) ∷ (59, (0, 361)) ∷ (60, (0, 362)) ∷
+    (61, (0, 363)) ∷ (62, (0, 364)) ∷ (63, (0, 365)) ∷ (66, (0, 366)) ∷ (67, (0, 367)) ∷
+    (69, (0, 368)) ∷ (70, (0, 369)) ∷ (72, (0, 370)) ∷ [])
+    ((113, 666) ∷ (115, 465) ∷ (116, 331) ∷ (117, 332) ∷ (118, 333) ∷ (119, 334) ∷ (120, 335) ∷
+    (121, 336) ∷ (122, 337) ∷ (123, 338) ∷ (124, 339) ∷ (125, 340) ∷ (126, 341) ∷ (127, 342) ∷
+    (128, 343) ∷ (129, 344) ∷ (134, 345) ∷ (136, 346) ∷ (137, 347) ∷ [])
     []
 
 -- after ProgramText ^let ^fun Variable Interface Union' ^-> ^( ^if Expr 'then
-abbrev pub state_621 : Row
-state_621 = at
-    ((318, 3, 233122239348736) ∷ [])
-    ((109, begin_at 1 318 3 140737488355328) ∷ (111, begin_at 2 319 0 140737488355328) ∷
-    (112, begin_at 3 324 0 140737488388096) ∷ (113, begin_at 3 323 0 140737488388096) ∷
-    (114, begin_at 4 328 0 140737488404480) ∷ (115, begin_at 4 327 0 140737488404480) ∷
-    (116, begin_at 5 332 0 140737488404480) ∷ (117, begin_at 5 331 0 140737547139072) ∷
-    (118, begin_at 6 340 0 140874986092544) ∷ (119, begin_at 6 339 0 140874986092544) ∷
-    (120, begin_at 7 344 0 140876865140736) ∷ (121, begin_at 7 343 0 140876865140736) ∷
-    (122, begin_at 8 352 0 27162474763581440) ∷ (123, begin_at 8 351 0 27162474763581440) ∷
-    (124, begin_at 9 365 0 104943019393989408768) ∷ (125, begin_at 9 364 0 104943019393989408768) ∷
-    (126, begin_at 10 369 0 104943019428349147136) ∷
-    (131, begin_at 10 368 0 104943019428349147136) ∷
-    (133, begin_at 11 381 0 104943019428349147136) ∷
-    (134, begin_at 12 384 0 104943019428349147136) ∷ [])
-    ((17, (1, 335)) ∷ (19, (1, 336)) ∷ (21, (1, 337)) ∷ (23, (1, 338)) ∷ (40, (1, 448)) ∷
-    (41, (1, 340)) ∷ (43, (1, 341)) ∷ (45, (1, 449)) ∷ (48, (1, 343)) ∷ (49, (1, 344)) ∷
-    (50, (1, 345)) ∷ (55, (0, 346)) ∷ (56, (0, 347)) ∷ (57, (0, 348)) ∷ (58, (0, 349)) ∷
-    (59, (0, 350)) ∷ (60, (0, 351)) ∷ (61, (0, 352)) ∷ (63, (0, 353)) ∷ (64, (0, 354)) ∷
-    (66, (0, 355)) ∷ [])
-    ((109, 643) ∷ (111, 446) ∷ (112, 317) ∷ (113, 318) ∷ (114, 319) ∷ (115, 320) ∷ (116, 321) ∷
-    (117, 322) ∷ (118, 323) ∷ (119, 324) ∷ (120, 325) ∷ (121, 326) ∷ (122, 327) ∷ (123, 328) ∷
-    (124, 329) ∷ (125, 330) ∷ (126, 331) ∷ (131, 332) ∷ (133, 333) ∷ (134, 334) ∷ [])
+abbrev pub state_646 : Row
+state_646 = at
+    ((330, 3, 36894420584827977728) ∷ [])
+    ((113, begin_at 1 330 3 562949953421312) ∷ (115, begin_at 2 331 0 562949953421312) ∷
+    (116, begin_at 3 336 0 562949953454080) ∷ (117, begin_at 3 335 0 562949953454080) ∷
+    (118, begin_at 4 340 0 562949953470464) ∷ (119, begin_at 4 339 0 562949953470464) ∷
+    (120, begin_at 5 344 0 562949953470464) ∷ (121, begin_at 5 343 0 562950070925312) ∷
+    (122, begin_at 6 352 0 563499826739200) ∷ (123, begin_at 6 351 0 563499826739200) ∷
+    (124, begin_at 7 356 0 563503584835584) ∷ (125, begin_at 7 355 0 563503584835584) ∷
+    (126, begin_at 8 364 0 108649894910162944) ∷ (127, begin_at 8 363 0 108649894910162944) ∷
+    (128, begin_at 9 379 0 6714723492725192456192) ∷
+    (129, begin_at 9 378 0 6714723492725192456192) ∷
+    (134, begin_at 10 382 0 6714723492931351017472) ∷
+    (136, begin_at 11 395 0 6714723492931351017472) ∷
+    (137, begin_at 12 398 0 6714723492931351017472) ∷ [])
+    ((18, (1, 348)) ∷ (20, (1, 349)) ∷ (22, (1, 350)) ∷ (24, (1, 351)) ∷ (42, (1, 467)) ∷
+    (43, (1, 353)) ∷ (45, (1, 354)) ∷ (47, (1, 468)) ∷ (50, (1, 356)) ∷ (51, (1, 357)) ∷
+    (52, (1, 358)) ∷ (57, (0, 359)) ∷ (58, (0, 360)) ∷ (59, (0, 361)) ∷ (60, (0, 362)) ∷
+    (61, (0, 363)) ∷ (62, (0, 364)) ∷ (63, (0, 365)) ∷ (66, (0, 366)) ∷ (67, (0, 367)) ∷
+    (69, (0, 368)) ∷ (70, (0, 369)) ∷ (72, (0, 370)) ∷ [])
+    ((113, 667) ∷ (115, 465) ∷ (116, 331) ∷ (117, 332) ∷ (118, 333) ∷ (119, 334) ∷ (120, 335) ∷
+    (121, 336) ∷ (122, 337) ∷ (123, 338) ∷ (124, 339) ∷ (125, 340) ∷ (126, 341) ∷ (127, 342) ∷
+    (128, 343) ∷ (129, 344) ∷ (134, 345) ∷ (136, 346) ∷ (137, 347) ∷ [])
     []
 
--- after ProgramText ^let ^fun Variable Interface Union' ^-> ^[ CSelects '. Label
-abbrev pub state_622 : Row
-state_622 = at
-    ((379, 3, 109527543040741867520) ∷ [])
+-- after ProgramText ^let ^fun Variable Interface Union' ^-> ^( 'select Expr 'from
+abbrev pub state_647 : Row
+state_647 = at
+    ((411, 4, 85002596690545378064384) ∷ [])
+    ((56, begin_at 2 412 0 17592186044416) ∷ (57, begin_at 3 145 0 17596481011712) ∷
+    (58, begin_at 3 144 0 17596481011712) ∷ (59, begin_at 4 149 0 17607218429952) ∷
+    (60, begin_at 4 148 0 17607218429952) ∷ (61, begin_at 5 155 0 17607218429952) ∷
+    (63, begin_at 5 154 0 17607218429952) ∷ (99, begin_at 6 293 0 17607218429952) ∷
+    (133, begin_at 1 411 4 524288) ∷ [])
+    ((0, (0, 259)) ∷ (18, (1, 260)) ∷ (20, (1, 261)) ∷ (22, (1, 262)) ∷ (24, (1, 263)) ∷
+    (40, (0, 265)) ∷ (66, (0, 266)) ∷ (67, (0, 267)) ∷ (69, (0, 268)) ∷ (70, (0, 269)) ∷
+    (71, (0, 270)) ∷ (72, (0, 271)) ∷ [])
+    ((56, 668) ∷ (57, 246) ∷ (58, 247) ∷ (59, 248) ∷ (60, 249) ∷ (61, 250) ∷ (63, 251) ∷ (99, 252) ∷
+    (133, 669) ∷ [])
     []
-    []
-    []
-    ((379, 109527543040741867520) ∷ [])
-
--- after ProgramText ^let ^fun Variable Interface Union' ^-> ^[ CBase '. Label
-abbrev pub state_623 : Row
-state_623 = at
-    ((378, 3, 109527543040741867520) ∷ [])
-    []
-    []
-    []
-    ((378, 109527543040741867520) ∷ [])
 
 -- after ProgramText ^let ^fun Variable Interface Union' ^-> ^{ Label '= Expr
-abbrev pub state_624 : Row
-state_624 = at
-    ((409, 3, 17184063488) ∷ [])
+abbrev pub state_648 : Row
+state_648 = at
+    ((427, 3, 34368126976) ∷ [])
     []
     []
     []
-    ((409, 17184063488) ∷ [])
+    ((427, 34368126976) ∷ [])
 
 -- after ProgramText ^let ^fun Variable Interface Union' ^-> ^{ ERow '; EField
-abbrev pub state_625 : Row
-state_625 = at
-    ((408, 3, 17184063488) ∷ [])
+abbrev pub state_649 : Row
+state_649 = at
+    ((426, 3, 34368126976) ∷ [])
     []
     []
     []
-    ((408, 17184063488) ∷ [])
+    ((426, 34368126976) ∷ [])
 
 -- after ProgramText ^let ^fun Variable Interface Union' ^-> ^< ETag Label '=
-abbrev pub state_626 : Row
-state_626 = at
-    ((419, 2, 111833385414304989184) ∷ [])
-    ((125, begin_at 1 419 2 111833385414304989184) ∷ (126, begin_at 2 369 0 111833385448664727552) ∷
-    (131, begin_at 2 368 0 111833385448664727552) ∷ (133, begin_at 3 381 0 111833385448664727552) ∷
-    (134, begin_at 4 384 0 111833385448664727552) ∷ [])
-    ((17, (1, 335)) ∷ (19, (1, 336)) ∷ (21, (1, 337)) ∷ (23, (1, 338)) ∷ (60, (0, 351)) ∷
-    (61, (0, 352)) ∷ (63, (0, 353)) ∷ (64, (0, 354)) ∷ (66, (0, 355)) ∷ [])
-    ((125, 644) ∷ (126, 331) ∷ (131, 332) ∷ (133, 333) ∷ (134, 334) ∷ [])
+abbrev pub state_650 : Row
+state_650 = at
+    ((437, 2, 7157336698434676064256) ∷ [])
+    ((129, begin_at 1 437 2 7157336698434676064256) ∷
+    (134, begin_at 2 382 0 7157336698640834625536) ∷
+    (136, begin_at 3 395 0 7157336698640834625536) ∷
+    (137, begin_at 4 398 0 7157336698640834625536) ∷ [])
+    ((18, (1, 348)) ∷ (20, (1, 349)) ∷ (22, (1, 350)) ∷ (24, (1, 351)) ∷ (66, (0, 366)) ∷
+    (67, (0, 367)) ∷ (69, (0, 368)) ∷ (70, (0, 369)) ∷ (72, (0, 370)) ∷ [])
+    ((129, 670) ∷ (134, 345) ∷ (136, 346) ∷ (137, 347) ∷ [])
     []
 
 -- after ProgramText ^let ^fun Variable Interface Union' ^-> ^< ETag EAttrs '>
-abbrev pub state_627 : Row
-state_627 = at
-    ((386, 4, 1328165573027847731200) ∷ [])
-    ((131, begin_at 1 386 4 1328165573027847731200) ∷
-    (133, begin_at 2 381 0 1328165573027847731200) ∷
-    (134, begin_at 3 384 0 1328165573027847731200) ∷ [])
-    ((17, (1, 335)) ∷ (19, (1, 336)) ∷ (21, (1, 337)) ∷ (23, (1, 338)) ∷ (60, (0, 351)) ∷
-    (61, (0, 352)) ∷ (63, (0, 353)) ∷ (64, (0, 354)) ∷ (66, (0, 355)) ∷ [])
-    ((131, 645) ∷ (133, 333) ∷ (134, 334) ∷ [])
+abbrev pub state_651 : Row
+state_651 = at
+    ((400, 4, 85002596690545378064384) ∷ [])
+    ((134, begin_at 1 400 4 85002596690545378064384) ∷
+    (136, begin_at 2 395 0 85002596690545378064384) ∷
+    (137, begin_at 3 398 0 85002596690545378064384) ∷ [])
+    ((18, (1, 348)) ∷ (20, (1, 349)) ∷ (22, (1, 350)) ∷ (24, (1, 351)) ∷ (66, (0, 366)) ∷
+    (67, (0, 367)) ∷ (69, (0, 368)) ∷ (70, (0, 369)) ∷ (72, (0, 370)) ∷ [])
+    ((134, 671) ∷ (136, 346) ∷ (137, 347) ∷ [])
     []
 
 -- after ProgramText ^let ^fun Variable Interface Union' ^-> ^< ETag EAttrList EAttr
-abbrev pub state_628 : Row
-state_628 = at
-    ((417, 2, 111833385414304989184) ∷ [])
+abbrev pub state_652 : Row
+state_652 = at
+    ((435, 2, 7157336698434676064256) ∷ [])
     []
     []
     []
-    ((417, 111833385414304989184) ∷ [])
+    ((435, 7157336698434676064256) ∷ [])
 
 -- after ProgramText ^let ^fun Variable Interface Union' ^-> ^< ETag EAttrList ';
-abbrev pub state_629 : Row
-state_629 = at
-    ((415, 2, 16777216) ∷ (418, 2, 111833385414304989184) ∷ [])
-    ((94, begin_at 2 419 0 33554432) ∷ (145, begin_at 1 418 2 111833385414304989184) ∷ [])
-    ((39, (0, 67)) ∷ (40, (0, 68)) ∷ (41, (0, 69)) ∷ (42, (0, 70)) ∷ (43, (0, 71)) ∷ (44, (0, 72)) ∷
-    (45, (0, 73)) ∷ (46, (0, 74)) ∷ (47, (0, 75)) ∷ (48, (0, 76)) ∷ (49, (0, 77)) ∷ (50, (0, 78)) ∷
-    (51, (0, 79)) ∷ (52, (0, 80)) ∷ (53, (0, 81)) ∷ (54, (0, 82)) ∷ (55, (0, 83)) ∷ (56, (0, 84)) ∷
-    (57, (0, 85)) ∷ (58, (0, 86)) ∷ (59, (0, 87)) ∷ (65, (0, 88)) ∷ (66, (0, 89)) ∷ [])
-    ((94, 574) ∷ (145, 646) ∷ [])
-    ((415, 16777216) ∷ [])
+abbrev pub state_653 : Row
+state_653 = at
+    ((433, 2, 33554432) ∷ (436, 2, 7157336698434676064256) ∷ [])
+    ((98, begin_at 2 437 0 67108864) ∷ (148, begin_at 1 436 2 7157336698434676064256) ∷ [])
+    ((41, (0, 69)) ∷ (42, (0, 70)) ∷ (43, (0, 71)) ∷ (44, (0, 72)) ∷ (45, (0, 73)) ∷ (46, (0, 74)) ∷
+    (47, (0, 75)) ∷ (48, (0, 76)) ∷ (49, (0, 77)) ∷ (50, (0, 78)) ∷ (51, (0, 79)) ∷ (52, (0, 80)) ∷
+    (53, (0, 81)) ∷ (54, (0, 82)) ∷ (55, (0, 83)) ∷ (56, (0, 84)) ∷ (57, (0, 85)) ∷ (58, (0, 86)) ∷
+    (59, (0, 87)) ∷ (60, (0, 88)) ∷ (61, (0, 89)) ∷ (62, (0, 90)) ∷ (63, (0, 91)) ∷ (64, (0, 92)) ∷
+    (65, (0, 93)) ∷ (71, (0, 94)) ∷ (72, (0, 95)) ∷ [])
+    ((98, 597) ∷ (148, 672) ∷ [])
+    ((433, 33554432) ∷ [])
 
 -- after ProgramText ^let ^fun Variable Interface Union' ^-> ^< ETag ^( Expr
-abbrev pub state_630 : Row
-state_630 = at
-    ((413, 2, 16777216) ∷ [])
+abbrev pub state_654 : Row
+state_654 = at
+    ((431, 2, 33554432) ∷ [])
     []
-    ((18, (0, 647)) ∷ [])
+    ((19, (0, 673)) ∷ [])
     []
     []
 
 -- after ProgramText ^let ^fun Variable Interface Union' ^-> ^< ETag '> Base
-abbrev pub state_631 : Row
-state_631 = at
-    ((385, 4, 1328165573027847731200) ∷ [])
+abbrev pub state_655 : Row
+state_655 = at
+    ((399, 4, 85002596690545378064384) ∷ [])
     []
     []
     []
-    ((385, 1328165573027847731200) ∷ [])
+    ((399, 85002596690545378064384) ∷ [])
 
 -- after ProgramText ^let ^fun Variable Interface Union' ^-> ^< ^( Expr ')
-abbrev pub state_632 : Row
-state_632 = at
-    ((411, 3, 111833385397125251072) ∷ [])
+abbrev pub state_656 : Row
+state_656 = at
+    ((429, 3, 7157336698400316588032) ∷ [])
     []
     []
     []
-    ((411, 111833385397125251072) ∷ [])
+    ((429, 7157336698400316588032) ∷ [])
 
 -- after ProgramText ^let ^fun Variable Interface Union' ^-> ^let Union' '= Expr
-abbrev pub state_633 : Row
-state_633 = at
-    ((317, 4, 1180591855488918159360) ∷ (320, 4, 2147483648) ∷ [])
+abbrev pub state_657 : Row
+state_657 = at
+    ((329, 4, 75594758153096221229056) ∷ (332, 4, 4294967296) ∷ [])
     []
-    ((42, (0, 648)) ∷ [])
+    ((44, (0, 674)) ∷ [])
     []
     []
 
 -- after ProgramText ^let ^fun Variable Interface Union' ^-> ^fun Variable Interface Branches
-abbrev pub state_634 : Row
-state_634 = at
-    ((316, 4, 1180591855488918159360) ∷ [])
+abbrev pub state_658 : Row
+state_658 = at
+    ((328, 4, 75594758153096221229056) ∷ [])
     []
     []
     []
-    ((316, 1180591855488918159360) ∷ [])
+    ((328, 75594758153096221229056) ∷ [])
 
 -- after ProgramText ^let ^fun Variable Interface Union' ^-> ^match Expr 'with Branches
-abbrev pub state_635 : Row
-state_635 = at
-    ((311, 4, 1180591855488918159360) ∷ [])
+abbrev pub state_659 : Row
+state_659 = at
+    ((323, 4, 75594758153096221229056) ∷ [])
     []
     []
     []
-    ((311, 1180591855488918159360) ∷ [])
+    ((323, 75594758153096221229056) ∷ [])
 
 -- after ProgramText ^let ^fun Variable Interface Union' ^-> ^if Expr 'then Expr
-abbrev pub state_636 : Row
-state_636 = at
-    ((318, 4, 1180591855488918159360) ∷ (321, 4, 2147483648) ∷ [])
+abbrev pub state_660 : Row
+state_660 = at
+    ((330, 4, 75594758153096221229056) ∷ (333, 4, 4294967296) ∷ [])
     []
-    ((47, (0, 649)) ∷ [])
+    ((49, (0, 675)) ∷ [])
     []
     []
 
 -- after ProgramText ^let ^fun Variable Interface Union' ^-> ^try Expr 'with Branches
-abbrev pub state_637 : Row
-state_637 = at
-    ((312, 4, 1180591855488918159360) ∷ [])
+abbrev pub state_661 : Row
+state_661 = at
+    ((324, 4, 75594758153096221229056) ∷ [])
     []
     []
     []
-    ((312, 1180591855488918159360) ∷ [])
+    ((324, 75594758153096221229056) ∷ [])
 
 -- after ProgramText ^let ^fun Variable Interface Union' ^-> ^map Expr 'with Branches
-abbrev pub state_638 : Row
-state_638 = at
-    ((313, 4, 1180591855488918159360) ∷ [])
+abbrev pub state_662 : Row
+state_662 = at
+    ((325, 4, 75594758153096221229056) ∷ [])
     []
     []
     []
-    ((313, 1180591855488918159360) ∷ [])
+    ((325, 75594758153096221229056) ∷ [])
 
 -- after ProgramText ^let ^fun Variable Interface Union' ^-> ^transform Expr 'with Branches
-abbrev pub state_639 : Row
-state_639 = at
-    ((314, 4, 1180591855488918159360) ∷ [])
+abbrev pub state_663 : Row
+state_663 = at
+    ((326, 4, 75594758153096221229056) ∷ [])
     []
     []
     []
-    ((314, 1180591855488918159360) ∷ [])
+    ((326, 75594758153096221229056) ∷ [])
 
 -- after ProgramText ^let ^fun Variable Interface ^( Arrow' 'where Names' 'and Name'
-abbrev pub state_640 : Row
-state_640 = at
-    ((134, 3, 4503625401631744) ∷ [])
+abbrev pub state_664 : Row
+state_664 = at
+    ((138, 3, 18015549569631232) ∷ [])
     []
     []
     []
-    ((134, 4503625401631744) ∷ [])
+    ((138, 18015549569631232) ∷ [])
 
 -- after ProgramText ^let ^fun Variable Interface ^( Arrow' 'where TypeName '= Arrow'
-abbrev pub state_641 : Row
-state_641 = at
-    ((135, 3, 4503625401631744) ∷ [])
+abbrev pub state_665 : Row
+state_665 = at
+    ((139, 3, 18015549569631232) ∷ [])
     []
     []
     []
-    ((135, 4503625401631744) ∷ [])
+    ((139, 18015549569631232) ∷ [])
 
 -- after ProgramText ^let ^fun Variable Interface Union' ^-> ^( ^let Union' '= Expr
-abbrev pub state_642 : Row
-state_642 = at
-    ((317, 4, 233122239348736) ∷ [])
+abbrev pub state_666 : Row
+state_666 = at
+    ((329, 4, 36894420584827977728) ∷ [])
     []
-    ((42, (0, 650)) ∷ [])
+    ((44, (0, 676)) ∷ [])
     []
     []
 
 -- after ProgramText ^let ^fun Variable Interface Union' ^-> ^( ^if Expr 'then Expr
-abbrev pub state_643 : Row
-state_643 = at
-    ((318, 4, 233122239348736) ∷ [])
+abbrev pub state_667 : Row
+state_667 = at
+    ((330, 4, 36894420584827977728) ∷ [])
     []
-    ((47, (0, 651)) ∷ [])
+    ((49, (0, 677)) ∷ [])
+    []
+    []
+
+-- after ProgramText ^let ^fun Variable Interface Union' ^-> ^( 'select Expr 'from Union'
+abbrev pub state_668 : Row
+state_668 = at
+    ((412, 1, 524288) ∷ (413, 1, 524288) ∷ (414, 1, 524288) ∷ [])
+    []
+    ((44, (1, 678)) ∷ [])
+    []
+    []
+
+-- after ProgramText ^let ^fun Variable Interface Union' ^-> ^( 'select Expr 'from Sources
+abbrev pub state_669 : Row
+state_669 = at
+    ((411, 5, 85002596690545378064384) ∷ [])
+    []
+    ((19, (0, 679)) ∷ [])
     []
     []
 
 -- after ProgramText ^let ^fun Variable Interface Union' ^-> ^< ETag Label '= Post
-abbrev pub state_644 : Row
-state_644 = at
-    ((419, 3, 111833385414304989184) ∷ [])
+abbrev pub state_670 : Row
+state_670 = at
+    ((437, 3, 7157336698434676064256) ∷ [])
     []
     []
     []
-    ((419, 111833385414304989184) ∷ [])
+    ((437, 7157336698434676064256) ∷ [])
 
 -- after ProgramText ^let ^fun Variable Interface Union' ^-> ^< ETag EAttrs '> Base
-abbrev pub state_645 : Row
-state_645 = at
-    ((386, 5, 1328165573027847731200) ∷ [])
+abbrev pub state_671 : Row
+state_671 = at
+    ((400, 5, 85002596690545378064384) ∷ [])
     []
     []
     []
-    ((386, 1328165573027847731200) ∷ [])
+    ((400, 85002596690545378064384) ∷ [])
 
 -- after ProgramText ^let ^fun Variable Interface Union' ^-> ^< ETag EAttrList '; EAttr
-abbrev pub state_646 : Row
-state_646 = at
-    ((418, 3, 111833385414304989184) ∷ [])
+abbrev pub state_672 : Row
+state_672 = at
+    ((436, 3, 7157336698434676064256) ∷ [])
     []
     []
     []
-    ((418, 111833385414304989184) ∷ [])
+    ((436, 7157336698434676064256) ∷ [])
 
 -- after ProgramText ^let ^fun Variable Interface Union' ^-> ^< ETag ^( Expr ')
-abbrev pub state_647 : Row
-state_647 = at
-    ((413, 3, 16777216) ∷ [])
+abbrev pub state_673 : Row
+state_673 = at
+    ((431, 3, 33554432) ∷ [])
     []
     []
     []
-    ((413, 16777216) ∷ [])
+    ((431, 33554432) ∷ [])
 
 -- after ProgramText ^let ^fun Variable Interface Union' ^-> ^let Union' '= Expr 'in
-abbrev pub state_648 : Row
-state_648 = at
-    ((317, 5, 1180591855488918159360) ∷ (320, 5, 2147483648) ∷ [])
-    ((109, begin_at 1 317 5 1180591855488918159360) ∷ (110, begin_at 1 320 5 2147483648) ∷
-    (111, begin_at 2 319 0 1180591855491065643008) ∷
-    (112, begin_at 3 324 0 1180591855491065675776) ∷
-    (113, begin_at 3 323 0 1180591855491065675776) ∷
-    (114, begin_at 4 328 0 1180591855491065692160) ∷
-    (115, begin_at 4 327 0 1180591855491065692160) ∷
-    (116, begin_at 5 332 0 1180591855491065692160) ∷
-    (117, begin_at 5 331 0 1180591855491124426752) ∷
-    (118, begin_at 6 340 0 1180591855628563380224) ∷
-    (119, begin_at 6 339 0 1180591855628563380224) ∷
-    (120, begin_at 7 344 0 1180591855630442428416) ∷
-    (121, begin_at 7 343 0 1180591855630442428416) ∷
-    (122, begin_at 8 352 0 1180618877228340869120) ∷
-    (123, begin_at 8 351 0 1180618877228340869120) ∷
-    (124, begin_at 9 365 0 1285534734147566696448) ∷
-    (125, begin_at 9 364 0 1285534734147566696448) ∷
-    (126, begin_at 10 369 0 1285534734181926434816) ∷
-    (131, begin_at 10 368 0 1285534734181926434816) ∷
-    (133, begin_at 11 381 0 1285534734181926434816) ∷
-    (134, begin_at 12 384 0 1285534734181926434816) ∷ [])
-    ((17, (1, 335)) ∷ (19, (1, 336)) ∷ (21, (1, 337)) ∷ (23, (1, 338)) ∷ (40, (1, 339)) ∷
-    (41, (1, 340)) ∷ (43, (1, 341)) ∷ (45, (1, 342)) ∷ (48, (1, 343)) ∷ (49, (1, 344)) ∷
-    (50, (1, 345)) ∷ (55, (0, 346)) ∷ (56, (0, 347)) ∷ (57, (0, 348)) ∷ (58, (0, 349)) ∷
-    (59, (0, 350)) ∷ (60, (0, 351)) ∷ (61, (0, 352)) ∷ (63, (0, 353)) ∷ (64, (0, 354)) ∷
-    (66, (0, 355)) ∷ [])
-    ((109, 652) ∷ (110, 653) ∷ (111, 316) ∷ (112, 317) ∷ (113, 318) ∷ (114, 319) ∷ (115, 320) ∷
-    (116, 321) ∷ (117, 322) ∷ (118, 323) ∷ (119, 324) ∷ (120, 325) ∷ (121, 326) ∷ (122, 327) ∷
-    (123, 328) ∷ (124, 329) ∷ (125, 330) ∷ (126, 331) ∷ (131, 332) ∷ (133, 333) ∷ (134, 334) ∷ [])
+abbrev pub state_674 : Row
+state_674 = at
+    ((329, 5, 75594758153096221229056) ∷ (332, 5, 4294967296) ∷ [])
+    ((113, begin_at 1 329 5 75594758153096221229056) ∷ (114, begin_at 1 332 5 4294967296) ∷
+    (115, begin_at 2 331 0 75594758153100516196352) ∷
+    (116, begin_at 3 336 0 75594758153100516229120) ∷
+    (117, begin_at 3 335 0 75594758153100516229120) ∷
+    (118, begin_at 4 340 0 75594758153100516245504) ∷
+    (119, begin_at 4 339 0 75594758153100516245504) ∷
+    (120, begin_at 5 344 0 75594758153100516245504) ∷
+    (121, begin_at 5 343 0 75594758153100633700352) ∷
+    (122, begin_at 6 352 0 75594758153650389514240) ∷
+    (123, begin_at 6 351 0 75594758153650389514240) ∷
+    (124, begin_at 7 356 0 75594758153654147610624) ∷
+    (125, begin_at 7 355 0 75594758153654147610624) ∷
+    (126, begin_at 8 364 0 75594866240045472937984) ∷
+    (127, begin_at 8 363 0 75594866240045472937984) ∷
+    (128, begin_at 9 379 0 82309481082875755231232) ∷
+    (129, begin_at 9 378 0 82309481082875755231232) ∷
+    (134, begin_at 10 382 0 82309481083081913792512) ∷
+    (136, begin_at 11 395 0 82309481083081913792512) ∷
+    (137, begin_at 12 398 0 82309481083081913792512) ∷ [])
+    ((18, (1, 348)) ∷ (20, (1, 349)) ∷ (22, (1, 350)) ∷ (24, (1, 351)) ∷ (42, (1, 352)) ∷
+    (43, (1, 353)) ∷ (45, (1, 354)) ∷ (47, (1, 355)) ∷ (50, (1, 356)) ∷ (51, (1, 357)) ∷
+    (52, (1, 358)) ∷ (57, (0, 359)) ∷ (58, (0, 360)) ∷ (59, (0, 361)) ∷ (60, (0, 362)) ∷
+    (61, (0, 363)) ∷ (62, (0, 364)) ∷ (63, (0, 365)) ∷ (66, (0, 366)) ∷ (67, (0, 367)) ∷
+    (69, (0, 368)) ∷ (70, (0, 369)) ∷ (72, (0, 370)) ∷ [])
+    ((113, 680) ∷ (114, 681) ∷ (115, 330) ∷ (116, 331) ∷ (117, 332) ∷ (118, 333) ∷ (119, 334) ∷
+    (120, 335) ∷ (121, 336) ∷ (122, 337) ∷ (123, 338) ∷ (124, 339) ∷ (125, 340) ∷ (126, 341) ∷
+    (127, 342) ∷ (128, 343) ∷ (129, 344) ∷ (134, 345) ∷ (136, 346) ∷ (137, 347) ∷ [])
     []
 
 -- after ProgramText ^let ^fun Variable Interface Union' ^-> ^if Expr 'then Expr 'else
-abbrev pub state_649 : Row
-state_649 = at
-    ((318, 5, 1180591855488918159360) ∷ (321, 5, 2147483648) ∷ [])
-    ((109, begin_at 1 318 5 1180591855488918159360) ∷ (110, begin_at 1 321 5 2147483648) ∷
-    (111, begin_at 2 319 0 1180591855491065643008) ∷
-    (112, begin_at 3 324 0 1180591855491065675776) ∷
-    (113, begin_at 3 323 0 1180591855491065675776) ∷
-    (114, begin_at 4 328 0 1180591855491065692160) ∷
-    (115, begin_at 4 327 0 1180591855491065692160) ∷
-    (116, begin_at 5 332 0 1180591855491065692160) ∷
-    (117, begin_at 5 331 0 1180591855491124426752) ∷
-    (118, begin_at 6 340 0 1180591855628563380224) ∷
-    (119, begin_at 6 339 0 1180591855628563380224) ∷
-    (120, begin_at 7 344 0 1180591855630442428416) ∷
-    (121, begin_at 7 343 0 1180591855630442428416) ∷
-    (122, begin_at 8 352 0 1180618877228340869120) ∷
-    (123, begin_at 8 351 0 1180618877228340869120) ∷
-    (124, begin_at 9 365 0 1285534734147566696448) ∷
-    (125, begin_at 9 364 0 1285534734147566696448) ∷
-    (126, begin_at 10 369 0 1285534734181926434816) ∷
-    (131, begin_at 10 368 0 1285534734181926434816) ∷
-    (133, begin_at 11 381 0 1285534734181926434816) ∷
-    (134, begin_at 12 384 0 1285534734181926434816) ∷ [])
-    ((17, (1, 335)) ∷ (19, (1, 336)) ∷ (21, (1, 337)) ∷ (23, (1, 338)) ∷ (40, (1, 339)) ∷
-    (41, (1, 340)) ∷ (43, (1, 341)) ∷ (45, (1, 342)) ∷ (48, (1, 343)) ∷ (49, (1, 344)) ∷
-    (50, (1, 345)) ∷ (55, (0, 346)) ∷ (56, (0, 347)) ∷ (57, (0, 348)) ∷ (58, (0, 349)) ∷
-    (59, (0, 350)) ∷ (60, (0, 351)) ∷ (61, (0, 352)) ∷ (63, (0, 353)) ∷ (64, (0, 354)) ∷
-    (66, (0, 355)) ∷ [])
-    ((109, 654) ∷ (110, 655) ∷ (111, 316) ∷ (112, 317) ∷ (113, 318) ∷ (114, 319) ∷ (115, 320) ∷
-    (116, 321) ∷ (117, 322) ∷ (118, 323) ∷ (119, 324) ∷ (120, 325) ∷ (121, 326) ∷ (122, 327) ∷
-    (123, 328) ∷ (124, 329) ∷ (125, 330) ∷ (126, 331) ∷ (131, 332) ∷ (133, 333) ∷ (134, 334) ∷ [])
+abbrev pub state_675 : Row
+state_675 = at
+    ((330, 5, 75594758153096221229056) ∷ (333, 5, 4294967296) ∷ [])
+    ((113, begin_at 1 330 5 75594758153096221229056) ∷ (114, begin_at 1 333 5 4294967296) ∷
+    (115, begin_at 2 331 0 75594758153100516196352) ∷
+    (116, begin_at 3 336 0 75594758153100516229120) ∷
+    (117, begin_at 3 335 0 75594758153100516229120) ∷
+    (118, begin_at 4 340 0 75594758153100516245504) ∷
+    (119, begin_at 4 339 0 75594758153100516245504) ∷
+    (120, begin_at 5 344 0 75594758153100516245504) ∷
+    (121, begin_at 5 343 0 75594758153100633700352) ∷
+    (122, begin_at 6 352 0 75594758153650389514240) ∷
+    (123, begin_at 6 351 0 75594758153650389514240) ∷
+    (124, begin_at 7 356 0 75594758153654147610624) ∷
+    (125, begin_at 7 355 0 75594758153654147610624) ∷
+    (126, begin_at 8 364 0 75594866240045472937984) ∷
+    (127, begin_at 8 363 0 75594866240045472937984) ∷
+    (128, begin_at 9 379 0 82309481082875755231232) ∷
+    (129, begin_at 9 378 0 82309481082875755231232) ∷
+    (134, begin_at 10 382 0 82309481083081913792512) ∷
+    (136, begin_at 11 395 0 82309481083081913792512) ∷
+    (137, begin_at 12 398 0 82309481083081913792512) ∷ [])
+    ((18, (1, 348)) ∷ (20, (1, 349)) ∷ (22, (1, 350)) ∷ (24, (1, 351)) ∷ (42, (1, 352)) ∷
+    (43, (1, 353)) ∷ (45, (1, 354)) ∷ (47, (1, 355)) ∷ (50, (1, 356)) ∷ (51, (1, 357)) ∷
+    (52, (1, 358)) ∷ (57, (0, 359)) ∷ (58, (0, 360)) ∷ (59, (0, 361)) ∷ (60, (0, 362)) ∷
+    (61, (0, 363)) ∷ (62, (0, 364)) ∷ (63, (0, 365)) ∷ (66, (0, 366)) ∷ (67, (0, 367)) ∷
+    (69, (0, 368)) ∷ (70, (0, 369)) ∷ (72, (0, 370)) ∷ [])
+    ((113, 682) ∷ (114, 683) ∷ (115, 330) ∷ (116, 331) ∷ (117, 332) ∷ (118, 333) ∷ (119, 334) ∷
+    (120, 335) ∷ (121, 336) ∷ (122, 337) ∷ (123, 338) ∷ (124, 339) ∷ (125, 340) ∷ (126, 341) ∷
+    (127, 342) ∷ (128, 343) ∷ (129, 344) ∷ (134, 345) ∷ (136, 346) ∷ (137, 347) ∷ [])
     []
 
 -- after ProgramText ^let ^fun Variable Interface Union' ^-> ^( ^let Union' '= Expr 'in
-abbrev pub state_650 : Row
-state_650 = at
-    ((317, 5, 233122239348736) ∷ [])
-    ((109, begin_at 1 317 5 233122239348736) ∷ (111, begin_at 2 319 0 233122239348736) ∷
-    (112, begin_at 3 324 0 233122239381504) ∷ (113, begin_at 3 323 0 233122239381504) ∷
-    (114, begin_at 4 328 0 233122239397888) ∷ (115, begin_at 4 327 0 233122239397888) ∷
-    (116, begin_at 5 332 0 233122239397888) ∷ (117, begin_at 5 331 0 233122298132480) ∷
-    (118, begin_at 6 340 0 233259737085952) ∷ (119, begin_at 6 339 0 233259737085952) ∷
-    (120, begin_at 7 344 0 233261616134144) ∷ (121, begin_at 7 343 0 233261616134144) ∷
-    (122, begin_at 8 352 0 27254859514574848) ∷ (123, begin_at 8 351 0 27254859514574848) ∷
-    (124, begin_at 9 365 0 104943111778740402176) ∷ (125, begin_at 9 364 0 104943111778740402176) ∷
-    (126, begin_at 10 369 0 104943111813100140544) ∷
-    (131, begin_at 10 368 0 104943111813100140544) ∷
-    (133, begin_at 11 381 0 104943111813100140544) ∷
-    (134, begin_at 12 384 0 104943111813100140544) ∷ [])
-    ((17, (1, 335)) ∷ (19, (1, 336)) ∷ (21, (1, 337)) ∷ (23, (1, 338)) ∷ (40, (1, 448)) ∷
-    (41, (1, 340)) ∷ (43, (1, 341)) ∷ (45, (1, 449)) ∷ (48, (1, 343)) ∷ (49, (1, 344)) ∷
-    (50, (1, 345)) ∷ (55, (0, 346)) ∷ (56, (0, 347)) ∷ (57, (0, 348)) ∷ (58, (0, 349)) ∷
-    (59, (0, 350)) ∷ (60, (0, 351)) ∷ (61, (0, 352)) ∷ (63, (0, 353)) ∷ (64, (0, 354)) ∷
-    (66, (0, 355)) ∷ [])
-    ((109, 652) ∷ (111, 446) ∷ (112, 317) ∷ (113, 318) ∷ (114, 319) ∷ (115, 320) ∷ (116, 321) ∷
-    (117, 322) ∷ (118, 323) ∷ (119, 324) ∷ (120, 325) ∷ (121, 326) ∷ (122, 327) ∷ (123, 328) ∷
-    (124, 329) ∷ (125, 330) ∷ (126, 331) ∷ (131, 332) ∷ (133, 333) ∷ (134, 334) ∷ [])
+abbrev pub state_676 : Row
+state_676 = at
+    ((329, 5, 36894420584827977728) ∷ [])
+    ((113, begin_at 1 329 5 36894420584827977728) ∷ (115, begin_at 2 331 0 36894420584827977728) ∷
+    (116, begin_at 3 336 0 36894420584828010496) ∷ (117, begin_at 3 335 0 36894420584828010496) ∷
+    (118, begin_at 4 340 0 36894420584828026880) ∷ (119, begin_at 4 339 0 36894420584828026880) ∷
+    (120, begin_at 5 344 0 36894420584828026880) ∷ (121, begin_at 5 343 0 36894420584945481728) ∷
+    (122, begin_at 6 352 0 36894421134701295616) ∷ (123, begin_at 6 351 0 36894421134701295616) ∷
+    (124, begin_at 7 356 0 36894421138459392000) ∷ (125, begin_at 7 355 0 36894421138459392000) ∷
+    (126, begin_at 8 364 0 37002507529784719360) ∷ (127, begin_at 8 363 0 37002507529784719360) ∷
+    (128, begin_at 9 379 0 6751617350360067012608) ∷
+    (129, begin_at 9 378 0 6751617350360067012608) ∷
+    (134, begin_at 10 382 0 6751617350566225573888) ∷
+    (136, begin_at 11 395 0 6751617350566225573888) ∷
+    (137, begin_at 12 398 0 6751617350566225573888) ∷ [])
+    ((18, (1, 348)) ∷ (20, (1, 349)) ∷ (22, (1, 350)) ∷ (24, (1, 351)) ∷ (42, (1, 467)) ∷
+    (43, (1, 353)) ∷ (45, (1, 354)) ∷ (47, (1, 468)) ∷ (50, (1, 356)) ∷ (51, (1, 357)) ∷
+    (52, (1, 358)) ∷ (57, (0, 359)) ∷ (58, (0, 360)) ∷ (59, (0, 361)) ∷ (60, (0, 362)) ∷
+    (61, (0, 363)) ∷ (62, (0, 364)) ∷ (63, (0, 365)) ∷ (66, (0, 366)) ∷ (67, (0, 367)) ∷
+    (69, (0, 368)) ∷ (70, (0, 369)) ∷ (72, (0, 370)) ∷ [])
+    ((113, 680) ∷ (115, 465) ∷ (116, 331) ∷ (117, 332) ∷ (118, 333) ∷ (119, 334) ∷ (120, 335) ∷
+    (121, 336) ∷ (122, 337) ∷ (123, 338) ∷ (124, 339) ∷ (125, 340) ∷ (126, 341) ∷ (127, 342) ∷
+    (128, 343) ∷ (129, 344) ∷ (134, 345) ∷ (136, 346) ∷ (137, 347) ∷ [])
     []
 
 -- after ProgramText ^let ^fun Variable Interface Union' ^-> ^( ^if Expr 'then Expr 'else
-abbrev pub state_651 : Row
-state_651 = at
-    ((318, 5, 233122239348736) ∷ [])
-    ((109, begin_at 1 318 5 233122239348736) ∷ (111, begin_at 2 319 0 233122239348736) ∷
-    (112, begin_at 3 324 0 233122239381504) ∷ (113, begin_at 3 323 0 233122239381504) ∷
-    (114, begin_at 4 328 0 233122239397888) ∷ (115, begin_at 4 327 0 233122239397888) ∷
-    (116, begin_at 5 332 0 233122239397888) ∷ (117, begin_at 5 331 0 233122298132480) ∷
-    (118, begin_at 6 340 0 233259737085952) ∷ (119, begin_at 6 339 0 233259737085952) ∷
-    (120, begin_at 7 344 0 233261616134144) ∷ (121, begin_at 7 343 0 233261616134144) ∷
-    (122, begin_at 8 352 0 27254859514574848) ∷ (123, begin_at 8 351 0 27254859514574848) ∷
-    (124, begin_at 9 365 0 104943111778740402176) ∷ (125, begin_at 9 364 0 104943111778740402176) ∷
-    (126, begin_at 10 369 0 104943111813100140544) ∷
-    (131, begin_at 10 368 0 104943111813100140544) ∷
-    (133, begin_at 11 381 0 104943111813100140544) ∷
-    (134, begin_at 12 384 0 104943111813100140544) ∷ [])
-    ((17, (1, 335)) ∷ (19, (1, 336)) ∷ (21, (1, 337)) ∷ (23, (1, 338)) ∷ (40, (1, 448)) ∷
-    (41, (1, 340)) ∷ (43, (1, 341)) ∷ (45, (1, 449)) ∷ (48, (1, 343)) ∷ (49, (1, 344)) ∷
-    (50, (1, 345)) ∷ (55, (0, 346)) ∷ (56, (0, 347)) ∷ (57, (0, 348)) ∷ (58, (0, 349)) ∷
-    (59, (0, 350)) ∷ (60, (0, 351)) ∷ (61, (0, 352)) ∷ (63, (0, 353)) ∷ (64, (0, 354)) ∷
-    (66, (0, 355)) ∷ [])
-    ((109, 654) ∷ (111, 446) ∷ (112, 317) ∷ (113, 318) ∷ (114, 319) ∷ (115, 320) ∷ (116, 321) ∷
-    (117, 322) ∷ (118, 323) ∷ (119, 324) ∷ (120, 325) ∷ (121, 326) ∷ (122, 327) ∷ (123, 328) ∷
-    (124, 329) ∷ (125, 330) ∷ (126, 331) ∷ (131, 332) ∷ (133, 333) ∷ (134, 334) ∷ [])
+abbrev pub state_677 : Row
+state_677 = at
+    ((330, 5, 36894420584827977728) ∷ [])
+    ((113, begin_at 1 330 5 36894420584827977728) ∷ (115, begin_at 2 331 0 36894420584827977728) ∷
+    (116, begin_at 3 336 0 36894420584828010496) ∷ (117, begin_at 3 335 0 36894420584828010496) ∷
+    (118, begin_at 4 340 0 36894420584828026880) ∷ (119, begin_at 4 339 0 36894420584828026880) ∷
+    (120, begin_at 5 344 0 36894420584828026880) ∷ (121, begin_at 5 343 0 36894420584945481728) ∷
+    (122, begin_at 6 352 0 36894421134701295616) ∷ (123, begin_at 6 351 0 36894421134701295616) ∷
+    (124, begin_at 7 356 0 36894421138459392000) ∷ (125, begin_at 7 355 0 36894421138459392000) ∷
+    (126, begin_at 8 364 0 37002507529784719360) ∷ (127, begin_at 8 363 0 37002507529784719360) ∷
+    (128, begin_at 9 379 0 6751617350360067012608) ∷
+    (129, begin_at 9 378 0 6751617350360067012608) ∷
+    (134, begin_at 10 382 0 6751617350566225573888) ∷
+    (136, begin_at 11 395 0 6751617350566225573888) ∷
+    (137, begin_at 12 398 0 6751617350566225573888) ∷ [])
+    ((18, (1, 348)) ∷ (20, (1, 349)) ∷ (22, (1, 350)) ∷ (24, (1, 351)) ∷ (42, (1, 467)) ∷
+    (43, (1, 353)) ∷ (45, (1, 354)) ∷ (47, (1, 468)) ∷ (50, (1, 356)) ∷ (51, (1, 357)) ∷
+    (52, (1, 358)) ∷ (57, (0, 359)) ∷ (58, (0, 360)) ∷ (59, (0, 361)) ∷ (60, (0, 362)) ∷
+    (61, (0, 363)) ∷ (62, (0, 364)) ∷ (63, (0, 365)) ∷ (66, (0, 366)) ∷ (67, (0, 367)) ∷
+    (69, (0, 368)) ∷ (70, (0, 369)) ∷ (72, (0, 370)) ∷ [])
+    ((113, 682) ∷ (115, 465) ∷ (116, 331) ∷ (117, 332) ∷ (118, 333) ∷ (119, 334) ∷ (120, 335) ∷
+    (121, 336) ∷ (122, 337) ∷ (123, 338) ∷ (124, 339) ∷ (125, 340) ∷ (126, 341) ∷ (127, 342) ∷
+    (128, 343) ∷ (129, 344) ∷ (134, 345) ∷ (136, 346) ∷ (137, 347) ∷ [])
     []
+
+-- after ProgramText ^let ^fun Variable Interface Union' ^-> ^( 'select Expr 'from Union' ^in
+abbrev pub state_678 : Row
+state_678 = at
+    ((412, 2, 524288) ∷ (413, 2, 524288) ∷ (414, 2, 524288) ∷ [])
+    ((115, begin_at 1 412 2 9007216435134464) ∷ (116, begin_at 2 336 0 9007216435167232) ∷
+    (117, begin_at 2 335 0 9007216435167232) ∷ (118, begin_at 3 340 0 9007216435183616) ∷
+    (119, begin_at 3 339 0 9007216435183616) ∷ (120, begin_at 4 344 0 9007216435183616) ∷
+    (121, begin_at 4 343 0 9007216552638464) ∷ (122, begin_at 5 352 0 9007766308452352) ∷
+    (123, begin_at 5 351 0 9007766308452352) ∷ (124, begin_at 6 356 0 9007770066548736) ∷
+    (125, begin_at 6 355 0 9007770066548736) ∷ (126, begin_at 7 364 0 117094161391876096) ∷
+    (127, begin_at 7 363 0 117094161391876096) ∷ (128, begin_at 8 379 0 6714731936991674169344) ∷
+    (129, begin_at 8 378 0 6714731936991674169344) ∷
+    (134, begin_at 9 382 0 6714731937197832730624) ∷
+    (136, begin_at 10 395 0 6714731937197832730624) ∷
+    (137, begin_at 11 398 0 6714731937197832730624) ∷ [])
+    ((18, (1, 348)) ∷ (20, (1, 349)) ∷ (22, (1, 350)) ∷ (24, (1, 351)) ∷ (57, (0, 359)) ∷
+    (58, (0, 360)) ∷ (59, (0, 361)) ∷ (60, (0, 362)) ∷ (61, (0, 363)) ∷ (62, (0, 364)) ∷
+    (63, (0, 365)) ∷ (66, (0, 366)) ∷ (67, (0, 367)) ∷ (69, (0, 368)) ∷ (70, (0, 369)) ∷
+    (72, (0, 370)) ∷ [])
+    ((115, 684) ∷ (116, 331) ∷ (117, 332) ∷ (118, 333) ∷ (119, 334) ∷ (120, 335) ∷ (121, 336) ∷
+    (122, 337) ∷ (123, 338) ∷ (124, 339) ∷ (125, 340) ∷ (126, 341) ∷ (127, 342) ∷ (128, 343) ∷
+    (129, 344) ∷ (134, 345) ∷ (136, 346) ∷ (137, 347) ∷ [])
+    []
+
+-- after ProgramText ^let ^fun Variable Interface Union' ^-> ^( 'select Expr 'from Sources ')
+abbrev pub state_679 : Row
+state_679 = at
+    ((411, 6, 85002596690545378064384) ∷ [])
+    []
+    []
+    []
+    ((411, 85002596690545378064384) ∷ [])
 
 -- after ProgramText ^let ^fun Variable Interface Union' ^-> ^let Union' '= Expr 'in Expr
-abbrev pub state_652 : Row
-state_652 = at
-    ((317, 6, 1180591855488918159360) ∷ [])
+abbrev pub state_680 : Row
+state_680 = at
+    ((329, 6, 75594758153096221229056) ∷ [])
     []
     []
     []
-    ((317, 1180591855488918159360) ∷ [])
+    ((329, 75594758153096221229056) ∷ [])
 
 -- after ProgramText ^let ^fun Variable Interface Union' ^-> ^let Union' '= Expr 'in Body
-abbrev pub state_653 : Row
-state_653 = at
-    ((320, 6, 2147483648) ∷ [])
+abbrev pub state_681 : Row
+state_681 = at
+    ((332, 6, 4294967296) ∷ [])
     []
     []
     []
-    ((320, 2147483648) ∷ [])
+    ((332, 4294967296) ∷ [])
 
 -- after ProgramText ^let ^fun Variable Interface Union' ^-> ^if Expr 'then Expr 'else Expr
-abbrev pub state_654 : Row
-state_654 = at
-    ((318, 6, 1180591855488918159360) ∷ [])
+abbrev pub state_682 : Row
+state_682 = at
+    ((330, 6, 75594758153096221229056) ∷ [])
     []
     []
     []
-    ((318, 1180591855488918159360) ∷ [])
+    ((330, 75594758153096221229056) ∷ [])
 
 -- after ProgramText ^let ^fun Variable Interface Union' ^-> ^if Expr 'then Expr 'else Body
-abbrev pub state_655 : Row
-state_655 = at
-    ((321, 6, 2147483648) ∷ [])
+abbrev pub state_683 : Row
+state_683 = at
+    ((333, 6, 4294967296) ∷ [])
     []
     []
     []
-    ((321, 2147483648) ∷ [])
+    ((333, 4294967296) ∷ [])
+
+-- after ProgramText ^let ^fun Variable Interface Union' ^-> ^( 'select Expr 'from Union' ^in Or
+abbrev pub state_684 : Row
+state_684 = at
+    ((412, 3, 524288) ∷ (413, 3, 524288) ∷ (414, 3, 524288) ∷ [])
+    []
+    ((34, (0, 685)) ∷ (53, (0, 686)) ∷ [])
+    []
+    ((412, 524288) ∷ [])
+
+-- after ProgramText ^let ^fun Variable Interface Union' ^-> ^( 'select Expr 'from Union' ^in Or ',
+abbrev pub state_685 : Row
+state_685 = at
+    ((414, 4, 524288) ∷ [])
+    ((56, begin_at 2 412 0 17592186044416) ∷ (57, begin_at 3 145 0 17596481011712) ∷
+    (58, begin_at 3 144 0 17596481011712) ∷ (59, begin_at 4 149 0 17607218429952) ∷
+    (60, begin_at 4 148 0 17607218429952) ∷ (61, begin_at 5 155 0 17607218429952) ∷
+    (63, begin_at 5 154 0 17607218429952) ∷ (99, begin_at 6 293 0 17607218429952) ∷
+    (133, begin_at 1 414 4 524288) ∷ [])
+    ((0, (0, 259)) ∷ (18, (1, 260)) ∷ (20, (1, 261)) ∷ (22, (1, 262)) ∷ (24, (1, 263)) ∷
+    (40, (0, 265)) ∷ (66, (0, 266)) ∷ (67, (0, 267)) ∷ (69, (0, 268)) ∷ (70, (0, 269)) ∷
+    (71, (0, 270)) ∷ (72, (0, 271)) ∷ [])
+    ((56, 668) ∷ (57, 246) ∷ (58, 247) ∷ (59, 248) ∷ (60, 249) ∷ (61, 250) ∷ (63, 251) ∷ (99, 252) ∷
+    (133, 687) ∷ [])
+    []
+
+-- after ProgramText ^let ^fun Variable Interface Union' ^-> ^( 'select Expr 'from Union' ^in Or 'where
+abbrev pub state_686 : Row
+state_686 = at
+    ((413, 4, 524288) ∷ [])
+    ((115, begin_at 1 413 4 524288) ∷ (116, begin_at 2 336 0 557056) ∷
+    (117, begin_at 2 335 0 557056) ∷ (118, begin_at 3 340 0 573440) ∷
+    (119, begin_at 3 339 0 573440) ∷ (120, begin_at 4 344 0 573440) ∷
+    (121, begin_at 4 343 0 118028288) ∷ (122, begin_at 5 352 0 549873842176) ∷
+    (123, begin_at 5 351 0 549873842176) ∷ (124, begin_at 6 356 0 553631938560) ∷
+    (125, begin_at 6 355 0 553631938560) ∷ (126, begin_at 7 364 0 108086944957265920) ∷
+    (127, begin_at 7 363 0 108086944957265920) ∷ (128, begin_at 8 379 0 6714722929775239559168) ∷
+    (129, begin_at 8 378 0 6714722929775239559168) ∷
+    (134, begin_at 9 382 0 6714722929981398120448) ∷
+    (136, begin_at 10 395 0 6714722929981398120448) ∷
+    (137, begin_at 11 398 0 6714722929981398120448) ∷ [])
+    ((18, (1, 348)) ∷ (20, (1, 349)) ∷ (22, (1, 350)) ∷ (24, (1, 351)) ∷ (57, (0, 359)) ∷
+    (58, (0, 360)) ∷ (59, (0, 361)) ∷ (60, (0, 362)) ∷ (61, (0, 363)) ∷ (62, (0, 364)) ∷
+    (63, (0, 365)) ∷ (66, (0, 366)) ∷ (67, (0, 367)) ∷ (69, (0, 368)) ∷ (70, (0, 369)) ∷
+    (72, (0, 370)) ∷ [])
+    ((115, 688) ∷ (116, 331) ∷ (117, 332) ∷ (118, 333) ∷ (119, 334) ∷ (120, 335) ∷ (121, 336) ∷
+    (122, 337) ∷ (123, 338) ∷ (124, 339) ∷ (125, 340) ∷ (126, 341) ∷ (127, 342) ∷ (128, 343) ∷
+    (129, 344) ∷ (134, 345) ∷ (136, 346) ∷ (137, 347) ∷ [])
+    []
+
+-- after ProgramText ^let ^fun Variable Interface Union' ^-> ^( 'select Expr 'from Union' ^in Or ', Sources
+abbrev pub state_687 : Row
+state_687 = at
+    ((414, 5, 524288) ∷ [])
+    []
+    []
+    []
+    ((414, 524288) ∷ [])
+
+-- after ProgramText ^let ^fun Variable Interface Union' ^-> ^( 'select Expr 'from Union' ^in Or 'where Or
+abbrev pub state_688 : Row
+state_688 = at
+    ((413, 5, 524288) ∷ [])
+    []
+    []
+    []
+    ((413, 524288) ∷ [])
 
 -- the states by number
 abbrev pub states : Table Row
 states =
-    node 328 state_328
-    (node 164 state_164
-    (node 82 state_82
-    (node 41 state_41
-    (node 20 state_20
+    node 344 state_344
+    (node 172 state_172
+    (node 86 state_86
+    (node 43 state_43
+    (node 21 state_21
     (node 10 state_10
     (node 5 state_5
     (node 2 state_2
@@ -10166,404 +10687,403 @@ states =
     (node 7 state_7
     (node 6 state_6 leaf leaf) leaf)
     (node 9 state_9 leaf leaf)))
-    (node 15 state_15
+    (node 16 state_16
     (node 13 state_13
     (node 12 state_12
     (node 11 state_11 leaf leaf) leaf)
-    (node 14 state_14 leaf leaf))
+    (node 15 state_15
+    (node 14 state_14 leaf leaf) leaf))
+    (node 19 state_19
     (node 18 state_18
-    (node 17 state_17
-    (node 16 state_16 leaf leaf) leaf)
-    (node 19 state_19 leaf leaf))))
-    (node 31 state_31
-    (node 26 state_26
+    (node 17 state_17 leaf leaf) leaf)
+    (node 20 state_20 leaf leaf))))
+    (node 32 state_32
+    (node 27 state_27
+    (node 24 state_24
     (node 23 state_23
-    (node 22 state_22
-    (node 21 state_21 leaf leaf) leaf)
-    (node 25 state_25
-    (node 24 state_24 leaf leaf) leaf))
+    (node 22 state_22 leaf leaf) leaf)
+    (node 26 state_26
+    (node 25 state_25 leaf leaf) leaf))
+    (node 30 state_30
     (node 29 state_29
-    (node 28 state_28
-    (node 27 state_27 leaf leaf) leaf)
-    (node 30 state_30 leaf leaf)))
-    (node 36 state_36
-    (node 34 state_34
-    (node 33 state_33
-    (node 32 state_32 leaf leaf) leaf)
-    (node 35 state_35 leaf leaf))
-    (node 39 state_39
+    (node 28 state_28 leaf leaf) leaf)
+    (node 31 state_31 leaf leaf)))
     (node 38 state_38
-    (node 37 state_37 leaf leaf) leaf)
-    (node 40 state_40 leaf leaf)))))
-    (node 62 state_62
-    (node 52 state_52
-    (node 47 state_47
-    (node 44 state_44
-    (node 43 state_43
-    (node 42 state_42 leaf leaf) leaf)
-    (node 46 state_46
-    (node 45 state_45 leaf leaf) leaf))
-    (node 50 state_50
-    (node 49 state_49
-    (node 48 state_48 leaf leaf) leaf)
-    (node 51 state_51 leaf leaf)))
-    (node 57 state_57
-    (node 55 state_55
-    (node 54 state_54
-    (node 53 state_53 leaf leaf) leaf)
-    (node 56 state_56 leaf leaf))
-    (node 60 state_60
-    (node 59 state_59
-    (node 58 state_58 leaf leaf) leaf)
-    (node 61 state_61 leaf leaf))))
-    (node 72 state_72
-    (node 67 state_67
+    (node 35 state_35
+    (node 34 state_34
+    (node 33 state_33 leaf leaf) leaf)
+    (node 37 state_37
+    (node 36 state_36 leaf leaf) leaf))
+    (node 41 state_41
+    (node 40 state_40
+    (node 39 state_39 leaf leaf) leaf)
+    (node 42 state_42 leaf leaf)))))
     (node 65 state_65
-    (node 64 state_64
-    (node 63 state_63 leaf leaf) leaf)
-    (node 66 state_66 leaf leaf))
+    (node 54 state_54
+    (node 49 state_49
+    (node 46 state_46
+    (node 45 state_45
+    (node 44 state_44 leaf leaf) leaf)
+    (node 48 state_48
+    (node 47 state_47 leaf leaf) leaf))
+    (node 52 state_52
+    (node 51 state_51
+    (node 50 state_50 leaf leaf) leaf)
+    (node 53 state_53 leaf leaf)))
+    (node 60 state_60
+    (node 57 state_57
+    (node 56 state_56
+    (node 55 state_55 leaf leaf) leaf)
+    (node 59 state_59
+    (node 58 state_58 leaf leaf) leaf))
+    (node 63 state_63
+    (node 62 state_62
+    (node 61 state_61 leaf leaf) leaf)
+    (node 64 state_64 leaf leaf))))
+    (node 76 state_76
+    (node 71 state_71
+    (node 68 state_68
+    (node 67 state_67
+    (node 66 state_66 leaf leaf) leaf)
     (node 70 state_70
-    (node 69 state_69
-    (node 68 state_68 leaf leaf) leaf)
-    (node 71 state_71 leaf leaf)))
-    (node 77 state_77
-    (node 75 state_75
+    (node 69 state_69 leaf leaf) leaf))
     (node 74 state_74
-    (node 73 state_73 leaf leaf) leaf)
-    (node 76 state_76 leaf leaf))
-    (node 80 state_80
+    (node 73 state_73
+    (node 72 state_72 leaf leaf) leaf)
+    (node 75 state_75 leaf leaf)))
+    (node 81 state_81
     (node 79 state_79
-    (node 78 state_78 leaf leaf) leaf)
-    (node 81 state_81 leaf leaf))))))
-    (node 123 state_123
-    (node 103 state_103
-    (node 93 state_93
-    (node 88 state_88
-    (node 85 state_85
+    (node 78 state_78
+    (node 77 state_77 leaf leaf) leaf)
+    (node 80 state_80 leaf leaf))
     (node 84 state_84
-    (node 83 state_83 leaf leaf) leaf)
-    (node 87 state_87
-    (node 86 state_86 leaf leaf) leaf))
-    (node 91 state_91
-    (node 90 state_90
-    (node 89 state_89 leaf leaf) leaf)
-    (node 92 state_92 leaf leaf)))
-    (node 98 state_98
-    (node 96 state_96
-    (node 95 state_95
-    (node 94 state_94 leaf leaf) leaf)
-    (node 97 state_97 leaf leaf))
-    (node 101 state_101
-    (node 100 state_100
-    (node 99 state_99 leaf leaf) leaf)
-    (node 102 state_102 leaf leaf))))
-    (node 113 state_113
+    (node 83 state_83
+    (node 82 state_82 leaf leaf) leaf)
+    (node 85 state_85 leaf leaf))))))
+    (node 129 state_129
     (node 108 state_108
+    (node 97 state_97
+    (node 92 state_92
+    (node 89 state_89
+    (node 88 state_88
+    (node 87 state_87 leaf leaf) leaf)
+    (node 91 state_91
+    (node 90 state_90 leaf leaf) leaf))
+    (node 95 state_95
+    (node 94 state_94
+    (node 93 state_93 leaf leaf) leaf)
+    (node 96 state_96 leaf leaf)))
+    (node 103 state_103
+    (node 100 state_100
+    (node 99 state_99
+    (node 98 state_98 leaf leaf) leaf)
+    (node 102 state_102
+    (node 101 state_101 leaf leaf) leaf))
     (node 106 state_106
     (node 105 state_105
     (node 104 state_104 leaf leaf) leaf)
-    (node 107 state_107 leaf leaf))
+    (node 107 state_107 leaf leaf))))
+    (node 119 state_119
+    (node 114 state_114
     (node 111 state_111
     (node 110 state_110
     (node 109 state_109 leaf leaf) leaf)
-    (node 112 state_112 leaf leaf)))
-    (node 118 state_118
+    (node 113 state_113
+    (node 112 state_112 leaf leaf) leaf))
+    (node 117 state_117
     (node 116 state_116
-    (node 115 state_115
-    (node 114 state_114 leaf leaf) leaf)
-    (node 117 state_117 leaf leaf))
+    (node 115 state_115 leaf leaf) leaf)
+    (node 118 state_118 leaf leaf)))
+    (node 124 state_124
+    (node 122 state_122
     (node 121 state_121
-    (node 120 state_120
-    (node 119 state_119 leaf leaf) leaf)
-    (node 122 state_122 leaf leaf)))))
-    (node 144 state_144
-    (node 134 state_134
-    (node 129 state_129
+    (node 120 state_120 leaf leaf) leaf)
+    (node 123 state_123 leaf leaf))
+    (node 127 state_127
     (node 126 state_126
-    (node 125 state_125
-    (node 124 state_124 leaf leaf) leaf)
-    (node 128 state_128
-    (node 127 state_127 leaf leaf) leaf))
+    (node 125 state_125 leaf leaf) leaf)
+    (node 128 state_128 leaf leaf)))))
+    (node 151 state_151
+    (node 140 state_140
+    (node 135 state_135
     (node 132 state_132
     (node 131 state_131
     (node 130 state_130 leaf leaf) leaf)
-    (node 133 state_133 leaf leaf)))
-    (node 139 state_139
+    (node 134 state_134
+    (node 133 state_133 leaf leaf) leaf))
+    (node 138 state_138
     (node 137 state_137
-    (node 136 state_136
-    (node 135 state_135 leaf leaf) leaf)
-    (node 138 state_138 leaf leaf))
-    (node 142 state_142
-    (node 141 state_141
-    (node 140 state_140 leaf leaf) leaf)
-    (node 143 state_143 leaf leaf))))
-    (node 154 state_154
-    (node 149 state_149
-    (node 147 state_147
+    (node 136 state_136 leaf leaf) leaf)
+    (node 139 state_139 leaf leaf)))
     (node 146 state_146
-    (node 145 state_145 leaf leaf) leaf)
-    (node 148 state_148 leaf leaf))
-    (node 152 state_152
-    (node 151 state_151
-    (node 150 state_150 leaf leaf) leaf)
-    (node 153 state_153 leaf leaf)))
-    (node 159 state_159
-    (node 157 state_157
-    (node 156 state_156
-    (node 155 state_155 leaf leaf) leaf)
-    (node 158 state_158 leaf leaf))
+    (node 143 state_143
+    (node 142 state_142
+    (node 141 state_141 leaf leaf) leaf)
+    (node 145 state_145
+    (node 144 state_144 leaf leaf) leaf))
+    (node 149 state_149
+    (node 148 state_148
+    (node 147 state_147 leaf leaf) leaf)
+    (node 150 state_150 leaf leaf))))
     (node 162 state_162
-    (node 161 state_161
-    (node 160 state_160 leaf leaf) leaf)
-    (node 163 state_163 leaf leaf)))))))
-    (node 246 state_246
-    (node 205 state_205
-    (node 185 state_185
-    (node 175 state_175
-    (node 170 state_170
+    (node 157 state_157
+    (node 154 state_154
+    (node 153 state_153
+    (node 152 state_152 leaf leaf) leaf)
+    (node 156 state_156
+    (node 155 state_155 leaf leaf) leaf))
+    (node 160 state_160
+    (node 159 state_159
+    (node 158 state_158 leaf leaf) leaf)
+    (node 161 state_161 leaf leaf)))
     (node 167 state_167
-    (node 166 state_166
-    (node 165 state_165 leaf leaf) leaf)
+    (node 165 state_165
+    (node 164 state_164
+    (node 163 state_163 leaf leaf) leaf)
+    (node 166 state_166 leaf leaf))
+    (node 170 state_170
     (node 169 state_169
-    (node 168 state_168 leaf leaf) leaf))
-    (node 173 state_173
-    (node 172 state_172
-    (node 171 state_171 leaf leaf) leaf)
-    (node 174 state_174 leaf leaf)))
-    (node 180 state_180
-    (node 178 state_178
-    (node 177 state_177
-    (node 176 state_176 leaf leaf) leaf)
-    (node 179 state_179 leaf leaf))
+    (node 168 state_168 leaf leaf) leaf)
+    (node 171 state_171 leaf leaf)))))))
+    (node 258 state_258
+    (node 215 state_215
+    (node 194 state_194
     (node 183 state_183
-    (node 182 state_182
-    (node 181 state_181 leaf leaf) leaf)
-    (node 184 state_184 leaf leaf))))
-    (node 195 state_195
-    (node 190 state_190
+    (node 178 state_178
+    (node 175 state_175
+    (node 174 state_174
+    (node 173 state_173 leaf leaf) leaf)
+    (node 177 state_177
+    (node 176 state_176 leaf leaf) leaf))
+    (node 181 state_181
+    (node 180 state_180
+    (node 179 state_179 leaf leaf) leaf)
+    (node 182 state_182 leaf leaf)))
+    (node 189 state_189
+    (node 186 state_186
+    (node 185 state_185
+    (node 184 state_184 leaf leaf) leaf)
     (node 188 state_188
-    (node 187 state_187
-    (node 186 state_186 leaf leaf) leaf)
-    (node 189 state_189 leaf leaf))
-    (node 193 state_193
+    (node 187 state_187 leaf leaf) leaf))
     (node 192 state_192
-    (node 191 state_191 leaf leaf) leaf)
-    (node 194 state_194 leaf leaf)))
+    (node 191 state_191
+    (node 190 state_190 leaf leaf) leaf)
+    (node 193 state_193 leaf leaf))))
+    (node 205 state_205
     (node 200 state_200
-    (node 198 state_198
     (node 197 state_197
-    (node 196 state_196 leaf leaf) leaf)
-    (node 199 state_199 leaf leaf))
+    (node 196 state_196
+    (node 195 state_195 leaf leaf) leaf)
+    (node 199 state_199
+    (node 198 state_198 leaf leaf) leaf))
     (node 203 state_203
     (node 202 state_202
     (node 201 state_201 leaf leaf) leaf)
-    (node 204 state_204 leaf leaf)))))
-    (node 226 state_226
-    (node 216 state_216
-    (node 211 state_211
+    (node 204 state_204 leaf leaf)))
+    (node 210 state_210
     (node 208 state_208
     (node 207 state_207
     (node 206 state_206 leaf leaf) leaf)
-    (node 210 state_210
-    (node 209 state_209 leaf leaf) leaf))
-    (node 214 state_214
+    (node 209 state_209 leaf leaf))
     (node 213 state_213
-    (node 212 state_212 leaf leaf) leaf)
-    (node 215 state_215 leaf leaf)))
+    (node 212 state_212
+    (node 211 state_211 leaf leaf) leaf)
+    (node 214 state_214 leaf leaf)))))
+    (node 237 state_237
+    (node 226 state_226
     (node 221 state_221
-    (node 219 state_219
     (node 218 state_218
-    (node 217 state_217 leaf leaf) leaf)
-    (node 220 state_220 leaf leaf))
+    (node 217 state_217
+    (node 216 state_216 leaf leaf) leaf)
+    (node 220 state_220
+    (node 219 state_219 leaf leaf) leaf))
     (node 224 state_224
     (node 223 state_223
     (node 222 state_222 leaf leaf) leaf)
-    (node 225 state_225 leaf leaf))))
-    (node 236 state_236
-    (node 231 state_231
+    (node 225 state_225 leaf leaf)))
+    (node 232 state_232
     (node 229 state_229
     (node 228 state_228
     (node 227 state_227 leaf leaf) leaf)
-    (node 230 state_230 leaf leaf))
+    (node 231 state_231
+    (node 230 state_230 leaf leaf) leaf))
+    (node 235 state_235
     (node 234 state_234
-    (node 233 state_233
-    (node 232 state_232 leaf leaf) leaf)
-    (node 235 state_235 leaf leaf)))
-    (node 241 state_241
-    (node 239 state_239
-    (node 238 state_238
-    (node 237 state_237 leaf leaf) leaf)
-    (node 240 state_240 leaf leaf))
-    (node 244 state_244
-    (node 243 state_243
-    (node 242 state_242 leaf leaf) leaf)
-    (node 245 state_245 leaf leaf))))))
-    (node 287 state_287
-    (node 267 state_267
-    (node 257 state_257
-    (node 252 state_252
-    (node 249 state_249
+    (node 233 state_233 leaf leaf) leaf)
+    (node 236 state_236 leaf leaf))))
     (node 248 state_248
-    (node 247 state_247 leaf leaf) leaf)
+    (node 243 state_243
+    (node 240 state_240
+    (node 239 state_239
+    (node 238 state_238 leaf leaf) leaf)
+    (node 242 state_242
+    (node 241 state_241 leaf leaf) leaf))
+    (node 246 state_246
+    (node 245 state_245
+    (node 244 state_244 leaf leaf) leaf)
+    (node 247 state_247 leaf leaf)))
+    (node 253 state_253
     (node 251 state_251
-    (node 250 state_250 leaf leaf) leaf))
+    (node 250 state_250
+    (node 249 state_249 leaf leaf) leaf)
+    (node 252 state_252 leaf leaf))
+    (node 256 state_256
     (node 255 state_255
-    (node 254 state_254
-    (node 253 state_253 leaf leaf) leaf)
-    (node 256 state_256 leaf leaf)))
-    (node 262 state_262
-    (node 260 state_260
-    (node 259 state_259
-    (node 258 state_258 leaf leaf) leaf)
-    (node 261 state_261 leaf leaf))
-    (node 265 state_265
-    (node 264 state_264
-    (node 263 state_263 leaf leaf) leaf)
-    (node 266 state_266 leaf leaf))))
-    (node 277 state_277
-    (node 272 state_272
-    (node 270 state_270
-    (node 269 state_269
-    (node 268 state_268 leaf leaf) leaf)
-    (node 271 state_271 leaf leaf))
-    (node 275 state_275
-    (node 274 state_274
-    (node 273 state_273 leaf leaf) leaf)
-    (node 276 state_276 leaf leaf)))
-    (node 282 state_282
-    (node 280 state_280
-    (node 279 state_279
-    (node 278 state_278 leaf leaf) leaf)
-    (node 281 state_281 leaf leaf))
-    (node 285 state_285
-    (node 284 state_284
-    (node 283 state_283 leaf leaf) leaf)
-    (node 286 state_286 leaf leaf)))))
-    (node 308 state_308
-    (node 298 state_298
-    (node 293 state_293
-    (node 290 state_290
-    (node 289 state_289
-    (node 288 state_288 leaf leaf) leaf)
-    (node 292 state_292
-    (node 291 state_291 leaf leaf) leaf))
-    (node 296 state_296
-    (node 295 state_295
-    (node 294 state_294 leaf leaf) leaf)
-    (node 297 state_297 leaf leaf)))
-    (node 303 state_303
+    (node 254 state_254 leaf leaf) leaf)
+    (node 257 state_257 leaf leaf))))))
     (node 301 state_301
-    (node 300 state_300
-    (node 299 state_299 leaf leaf) leaf)
-    (node 302 state_302 leaf leaf))
-    (node 306 state_306
-    (node 305 state_305
-    (node 304 state_304 leaf leaf) leaf)
-    (node 307 state_307 leaf leaf))))
-    (node 318 state_318
-    (node 313 state_313
-    (node 311 state_311
-    (node 310 state_310
-    (node 309 state_309 leaf leaf) leaf)
-    (node 312 state_312 leaf leaf))
-    (node 316 state_316
-    (node 315 state_315
-    (node 314 state_314 leaf leaf) leaf)
-    (node 317 state_317 leaf leaf)))
+    (node 280 state_280
+    (node 269 state_269
+    (node 264 state_264
+    (node 261 state_261
+    (node 260 state_260
+    (node 259 state_259 leaf leaf) leaf)
+    (node 263 state_263
+    (node 262 state_262 leaf leaf) leaf))
+    (node 267 state_267
+    (node 266 state_266
+    (node 265 state_265 leaf leaf) leaf)
+    (node 268 state_268 leaf leaf)))
+    (node 275 state_275
+    (node 272 state_272
+    (node 271 state_271
+    (node 270 state_270 leaf leaf) leaf)
+    (node 274 state_274
+    (node 273 state_273 leaf leaf) leaf))
+    (node 278 state_278
+    (node 277 state_277
+    (node 276 state_276 leaf leaf) leaf)
+    (node 279 state_279 leaf leaf))))
+    (node 291 state_291
+    (node 286 state_286
+    (node 283 state_283
+    (node 282 state_282
+    (node 281 state_281 leaf leaf) leaf)
+    (node 285 state_285
+    (node 284 state_284 leaf leaf) leaf))
+    (node 289 state_289
+    (node 288 state_288
+    (node 287 state_287 leaf leaf) leaf)
+    (node 290 state_290 leaf leaf)))
+    (node 296 state_296
+    (node 294 state_294
+    (node 293 state_293
+    (node 292 state_292 leaf leaf) leaf)
+    (node 295 state_295 leaf leaf))
+    (node 299 state_299
+    (node 298 state_298
+    (node 297 state_297 leaf leaf) leaf)
+    (node 300 state_300 leaf leaf)))))
     (node 323 state_323
+    (node 312 state_312
+    (node 307 state_307
+    (node 304 state_304
+    (node 303 state_303
+    (node 302 state_302 leaf leaf) leaf)
+    (node 306 state_306
+    (node 305 state_305 leaf leaf) leaf))
+    (node 310 state_310
+    (node 309 state_309
+    (node 308 state_308 leaf leaf) leaf)
+    (node 311 state_311 leaf leaf)))
+    (node 318 state_318
+    (node 315 state_315
+    (node 314 state_314
+    (node 313 state_313 leaf leaf) leaf)
+    (node 317 state_317
+    (node 316 state_316 leaf leaf) leaf))
     (node 321 state_321
     (node 320 state_320
     (node 319 state_319 leaf leaf) leaf)
-    (node 322 state_322 leaf leaf))
+    (node 322 state_322 leaf leaf))))
+    (node 334 state_334
+    (node 329 state_329
     (node 326 state_326
     (node 325 state_325
     (node 324 state_324 leaf leaf) leaf)
-    (node 327 state_327 leaf leaf))))))))
-    (node 492 state_492
-    (node 410 state_410
-    (node 369 state_369
-    (node 349 state_349
-    (node 339 state_339
-    (node 334 state_334
+    (node 328 state_328
+    (node 327 state_327 leaf leaf) leaf))
+    (node 332 state_332
     (node 331 state_331
-    (node 330 state_330
-    (node 329 state_329 leaf leaf) leaf)
-    (node 333 state_333
-    (node 332 state_332 leaf leaf) leaf))
+    (node 330 state_330 leaf leaf) leaf)
+    (node 333 state_333 leaf leaf)))
+    (node 339 state_339
     (node 337 state_337
     (node 336 state_336
     (node 335 state_335 leaf leaf) leaf)
-    (node 338 state_338 leaf leaf)))
-    (node 344 state_344
+    (node 338 state_338 leaf leaf))
     (node 342 state_342
     (node 341 state_341
     (node 340 state_340 leaf leaf) leaf)
-    (node 343 state_343 leaf leaf))
+    (node 343 state_343 leaf leaf))))))))
+    (node 517 state_517
+    (node 431 state_431
+    (node 388 state_388
+    (node 366 state_366
+    (node 355 state_355
+    (node 350 state_350
     (node 347 state_347
     (node 346 state_346
     (node 345 state_345 leaf leaf) leaf)
-    (node 348 state_348 leaf leaf))))
-    (node 359 state_359
-    (node 354 state_354
+    (node 349 state_349
+    (node 348 state_348 leaf leaf) leaf))
+    (node 353 state_353
     (node 352 state_352
-    (node 351 state_351
-    (node 350 state_350 leaf leaf) leaf)
-    (node 353 state_353 leaf leaf))
-    (node 357 state_357
-    (node 356 state_356
-    (node 355 state_355 leaf leaf) leaf)
-    (node 358 state_358 leaf leaf)))
-    (node 364 state_364
-    (node 362 state_362
+    (node 351 state_351 leaf leaf) leaf)
+    (node 354 state_354 leaf leaf)))
     (node 361 state_361
-    (node 360 state_360 leaf leaf) leaf)
-    (node 363 state_363 leaf leaf))
-    (node 367 state_367
-    (node 366 state_366
-    (node 365 state_365 leaf leaf) leaf)
-    (node 368 state_368 leaf leaf)))))
-    (node 390 state_390
-    (node 380 state_380
-    (node 375 state_375
-    (node 372 state_372
-    (node 371 state_371
-    (node 370 state_370 leaf leaf) leaf)
-    (node 374 state_374
-    (node 373 state_373 leaf leaf) leaf))
-    (node 378 state_378
+    (node 358 state_358
+    (node 357 state_357
+    (node 356 state_356 leaf leaf) leaf)
+    (node 360 state_360
+    (node 359 state_359 leaf leaf) leaf))
+    (node 364 state_364
+    (node 363 state_363
+    (node 362 state_362 leaf leaf) leaf)
+    (node 365 state_365 leaf leaf))))
     (node 377 state_377
-    (node 376 state_376 leaf leaf) leaf)
-    (node 379 state_379 leaf leaf)))
-    (node 385 state_385
+    (node 372 state_372
+    (node 369 state_369
+    (node 368 state_368
+    (node 367 state_367 leaf leaf) leaf)
+    (node 371 state_371
+    (node 370 state_370 leaf leaf) leaf))
+    (node 375 state_375
+    (node 374 state_374
+    (node 373 state_373 leaf leaf) leaf)
+    (node 376 state_376 leaf leaf)))
     (node 383 state_383
+    (node 380 state_380
+    (node 379 state_379
+    (node 378 state_378 leaf leaf) leaf)
     (node 382 state_382
-    (node 381 state_381 leaf leaf) leaf)
-    (node 384 state_384 leaf leaf))
-    (node 388 state_388
-    (node 387 state_387
-    (node 386 state_386 leaf leaf) leaf)
-    (node 389 state_389 leaf leaf))))
-    (node 400 state_400
-    (node 395 state_395
+    (node 381 state_381 leaf leaf) leaf))
+    (node 386 state_386
+    (node 385 state_385
+    (node 384 state_384 leaf leaf) leaf)
+    (node 387 state_387 leaf leaf)))))
+    (node 410 state_410
+    (node 399 state_399
+    (node 394 state_394
+    (node 391 state_391
+    (node 390 state_390
+    (node 389 state_389 leaf leaf) leaf)
     (node 393 state_393
-    (node 392 state_392
-    (node 391 state_391 leaf leaf) leaf)
-    (node 394 state_394 leaf leaf))
-    (node 398 state_398
+    (node 392 state_392 leaf leaf) leaf))
     (node 397 state_397
-    (node 396 state_396 leaf leaf) leaf)
-    (node 399 state_399 leaf leaf)))
+    (node 396 state_396
+    (node 395 state_395 leaf leaf) leaf)
+    (node 398 state_398 leaf leaf)))
     (node 405 state_405
-    (node 403 state_403
     (node 402 state_402
-    (node 401 state_401 leaf leaf) leaf)
-    (node 404 state_404 leaf leaf))
+    (node 401 state_401
+    (node 400 state_400 leaf leaf) leaf)
+    (node 404 state_404
+    (node 403 state_403 leaf leaf) leaf))
     (node 408 state_408
     (node 407 state_407
     (node 406 state_406 leaf leaf) leaf)
-    (node 409 state_409 leaf leaf))))))
-    (node 451 state_451
-    (node 431 state_431
+    (node 409 state_409 leaf leaf))))
     (node 421 state_421
     (node 416 state_416
     (node 413 state_413
@@ -10583,211 +11103,212 @@ states =
     (node 429 state_429
     (node 428 state_428
     (node 427 state_427 leaf leaf) leaf)
-    (node 430 state_430 leaf leaf))))
-    (node 441 state_441
-    (node 436 state_436
+    (node 430 state_430 leaf leaf))))))
+    (node 474 state_474
+    (node 453 state_453
+    (node 442 state_442
+    (node 437 state_437
     (node 434 state_434
     (node 433 state_433
     (node 432 state_432 leaf leaf) leaf)
-    (node 435 state_435 leaf leaf))
+    (node 436 state_436
+    (node 435 state_435 leaf leaf) leaf))
+    (node 440 state_440
     (node 439 state_439
-    (node 438 state_438
-    (node 437 state_437 leaf leaf) leaf)
-    (node 440 state_440 leaf leaf)))
-    (node 446 state_446
-    (node 444 state_444
-    (node 443 state_443
-    (node 442 state_442 leaf leaf) leaf)
-    (node 445 state_445 leaf leaf))
-    (node 449 state_449
+    (node 438 state_438 leaf leaf) leaf)
+    (node 441 state_441 leaf leaf)))
     (node 448 state_448
-    (node 447 state_447 leaf leaf) leaf)
-    (node 450 state_450 leaf leaf)))))
-    (node 472 state_472
-    (node 462 state_462
-    (node 457 state_457
-    (node 454 state_454
-    (node 453 state_453
-    (node 452 state_452 leaf leaf) leaf)
-    (node 456 state_456
-    (node 455 state_455 leaf leaf) leaf))
-    (node 460 state_460
-    (node 459 state_459
-    (node 458 state_458 leaf leaf) leaf)
-    (node 461 state_461 leaf leaf)))
-    (node 467 state_467
-    (node 465 state_465
+    (node 445 state_445
+    (node 444 state_444
+    (node 443 state_443 leaf leaf) leaf)
+    (node 447 state_447
+    (node 446 state_446 leaf leaf) leaf))
+    (node 451 state_451
+    (node 450 state_450
+    (node 449 state_449 leaf leaf) leaf)
+    (node 452 state_452 leaf leaf))))
     (node 464 state_464
-    (node 463 state_463 leaf leaf) leaf)
-    (node 466 state_466 leaf leaf))
-    (node 470 state_470
+    (node 459 state_459
+    (node 456 state_456
+    (node 455 state_455
+    (node 454 state_454 leaf leaf) leaf)
+    (node 458 state_458
+    (node 457 state_457 leaf leaf) leaf))
+    (node 462 state_462
+    (node 461 state_461
+    (node 460 state_460 leaf leaf) leaf)
+    (node 463 state_463 leaf leaf)))
     (node 469 state_469
-    (node 468 state_468 leaf leaf) leaf)
-    (node 471 state_471 leaf leaf))))
-    (node 482 state_482
-    (node 477 state_477
-    (node 475 state_475
-    (node 474 state_474
-    (node 473 state_473 leaf leaf) leaf)
-    (node 476 state_476 leaf leaf))
-    (node 480 state_480
-    (node 479 state_479
-    (node 478 state_478 leaf leaf) leaf)
-    (node 481 state_481 leaf leaf)))
-    (node 487 state_487
+    (node 467 state_467
+    (node 466 state_466
+    (node 465 state_465 leaf leaf) leaf)
+    (node 468 state_468 leaf leaf))
+    (node 472 state_472
+    (node 471 state_471
+    (node 470 state_470 leaf leaf) leaf)
+    (node 473 state_473 leaf leaf)))))
+    (node 496 state_496
     (node 485 state_485
-    (node 484 state_484
-    (node 483 state_483 leaf leaf) leaf)
-    (node 486 state_486 leaf leaf))
+    (node 480 state_480
+    (node 477 state_477
+    (node 476 state_476
+    (node 475 state_475 leaf leaf) leaf)
+    (node 479 state_479
+    (node 478 state_478 leaf leaf) leaf))
+    (node 483 state_483
+    (node 482 state_482
+    (node 481 state_481 leaf leaf) leaf)
+    (node 484 state_484 leaf leaf)))
+    (node 491 state_491
+    (node 488 state_488
+    (node 487 state_487
+    (node 486 state_486 leaf leaf) leaf)
     (node 490 state_490
-    (node 489 state_489
-    (node 488 state_488 leaf leaf) leaf)
-    (node 491 state_491 leaf leaf)))))))
-    (node 574 state_574
-    (node 533 state_533
-    (node 513 state_513
-    (node 503 state_503
-    (node 498 state_498
-    (node 495 state_495
+    (node 489 state_489 leaf leaf) leaf))
     (node 494 state_494
-    (node 493 state_493 leaf leaf) leaf)
-    (node 497 state_497
-    (node 496 state_496 leaf leaf) leaf))
+    (node 493 state_493
+    (node 492 state_492 leaf leaf) leaf)
+    (node 495 state_495 leaf leaf))))
+    (node 507 state_507
+    (node 502 state_502
+    (node 499 state_499
+    (node 498 state_498
+    (node 497 state_497 leaf leaf) leaf)
     (node 501 state_501
-    (node 500 state_500
-    (node 499 state_499 leaf leaf) leaf)
-    (node 502 state_502 leaf leaf)))
-    (node 508 state_508
-    (node 506 state_506
+    (node 500 state_500 leaf leaf) leaf))
     (node 505 state_505
-    (node 504 state_504 leaf leaf) leaf)
-    (node 507 state_507 leaf leaf))
-    (node 511 state_511
+    (node 504 state_504
+    (node 503 state_503 leaf leaf) leaf)
+    (node 506 state_506 leaf leaf)))
+    (node 512 state_512
     (node 510 state_510
-    (node 509 state_509 leaf leaf) leaf)
-    (node 512 state_512 leaf leaf))))
-    (node 523 state_523
-    (node 518 state_518
-    (node 516 state_516
+    (node 509 state_509
+    (node 508 state_508 leaf leaf) leaf)
+    (node 511 state_511 leaf leaf))
     (node 515 state_515
-    (node 514 state_514 leaf leaf) leaf)
-    (node 517 state_517 leaf leaf))
-    (node 521 state_521
-    (node 520 state_520
-    (node 519 state_519 leaf leaf) leaf)
-    (node 522 state_522 leaf leaf)))
+    (node 514 state_514
+    (node 513 state_513 leaf leaf) leaf)
+    (node 516 state_516 leaf leaf)))))))
+    (node 603 state_603
+    (node 560 state_560
+    (node 539 state_539
     (node 528 state_528
+    (node 523 state_523
+    (node 520 state_520
+    (node 519 state_519
+    (node 518 state_518 leaf leaf) leaf)
+    (node 522 state_522
+    (node 521 state_521 leaf leaf) leaf))
     (node 526 state_526
     (node 525 state_525
     (node 524 state_524 leaf leaf) leaf)
-    (node 527 state_527 leaf leaf))
+    (node 527 state_527 leaf leaf)))
+    (node 534 state_534
     (node 531 state_531
     (node 530 state_530
     (node 529 state_529 leaf leaf) leaf)
-    (node 532 state_532 leaf leaf)))))
-    (node 554 state_554
-    (node 544 state_544
-    (node 539 state_539
+    (node 533 state_533
+    (node 532 state_532 leaf leaf) leaf))
+    (node 537 state_537
     (node 536 state_536
-    (node 535 state_535
-    (node 534 state_534 leaf leaf) leaf)
-    (node 538 state_538
-    (node 537 state_537 leaf leaf) leaf))
+    (node 535 state_535 leaf leaf) leaf)
+    (node 538 state_538 leaf leaf))))
+    (node 550 state_550
+    (node 545 state_545
     (node 542 state_542
     (node 541 state_541
     (node 540 state_540 leaf leaf) leaf)
-    (node 543 state_543 leaf leaf)))
-    (node 549 state_549
+    (node 544 state_544
+    (node 543 state_543 leaf leaf) leaf))
+    (node 548 state_548
     (node 547 state_547
-    (node 546 state_546
-    (node 545 state_545 leaf leaf) leaf)
-    (node 548 state_548 leaf leaf))
+    (node 546 state_546 leaf leaf) leaf)
+    (node 549 state_549 leaf leaf)))
+    (node 555 state_555
+    (node 553 state_553
     (node 552 state_552
-    (node 551 state_551
-    (node 550 state_550 leaf leaf) leaf)
-    (node 553 state_553 leaf leaf))))
-    (node 564 state_564
-    (node 559 state_559
+    (node 551 state_551 leaf leaf) leaf)
+    (node 554 state_554 leaf leaf))
+    (node 558 state_558
     (node 557 state_557
-    (node 556 state_556
-    (node 555 state_555 leaf leaf) leaf)
-    (node 558 state_558 leaf leaf))
-    (node 562 state_562
-    (node 561 state_561
-    (node 560 state_560 leaf leaf) leaf)
-    (node 563 state_563 leaf leaf)))
-    (node 569 state_569
-    (node 567 state_567
-    (node 566 state_566
-    (node 565 state_565 leaf leaf) leaf)
-    (node 568 state_568 leaf leaf))
-    (node 572 state_572
-    (node 571 state_571
-    (node 570 state_570 leaf leaf) leaf)
-    (node 573 state_573 leaf leaf))))))
-    (node 615 state_615
-    (node 595 state_595
-    (node 585 state_585
-    (node 580 state_580
-    (node 577 state_577
-    (node 576 state_576
-    (node 575 state_575 leaf leaf) leaf)
-    (node 579 state_579
-    (node 578 state_578 leaf leaf) leaf))
-    (node 583 state_583
+    (node 556 state_556 leaf leaf) leaf)
+    (node 559 state_559 leaf leaf)))))
     (node 582 state_582
-    (node 581 state_581 leaf leaf) leaf)
-    (node 584 state_584 leaf leaf)))
-    (node 590 state_590
-    (node 588 state_588
-    (node 587 state_587
-    (node 586 state_586 leaf leaf) leaf)
-    (node 589 state_589 leaf leaf))
+    (node 571 state_571
+    (node 566 state_566
+    (node 563 state_563
+    (node 562 state_562
+    (node 561 state_561 leaf leaf) leaf)
+    (node 565 state_565
+    (node 564 state_564 leaf leaf) leaf))
+    (node 569 state_569
+    (node 568 state_568
+    (node 567 state_567 leaf leaf) leaf)
+    (node 570 state_570 leaf leaf)))
+    (node 577 state_577
+    (node 574 state_574
+    (node 573 state_573
+    (node 572 state_572 leaf leaf) leaf)
+    (node 576 state_576
+    (node 575 state_575 leaf leaf) leaf))
+    (node 580 state_580
+    (node 579 state_579
+    (node 578 state_578 leaf leaf) leaf)
+    (node 581 state_581 leaf leaf))))
     (node 593 state_593
-    (node 592 state_592
-    (node 591 state_591 leaf leaf) leaf)
-    (node 594 state_594 leaf leaf))))
-    (node 605 state_605
-    (node 600 state_600
+    (node 588 state_588
+    (node 585 state_585
+    (node 584 state_584
+    (node 583 state_583 leaf leaf) leaf)
+    (node 587 state_587
+    (node 586 state_586 leaf leaf) leaf))
+    (node 591 state_591
+    (node 590 state_590
+    (node 589 state_589 leaf leaf) leaf)
+    (node 592 state_592 leaf leaf)))
     (node 598 state_598
-    (node 597 state_597
-    (node 596 state_596 leaf leaf) leaf)
-    (node 599 state_599 leaf leaf))
-    (node 603 state_603
-    (node 602 state_602
-    (node 601 state_601 leaf leaf) leaf)
-    (node 604 state_604 leaf leaf)))
-    (node 610 state_610
+    (node 596 state_596
+    (node 595 state_595
+    (node 594 state_594 leaf leaf) leaf)
+    (node 597 state_597 leaf leaf))
+    (node 601 state_601
+    (node 600 state_600
+    (node 599 state_599 leaf leaf) leaf)
+    (node 602 state_602 leaf leaf))))))
+    (node 646 state_646
+    (node 625 state_625
+    (node 614 state_614
+    (node 609 state_609
+    (node 606 state_606
+    (node 605 state_605
+    (node 604 state_604 leaf leaf) leaf)
     (node 608 state_608
-    (node 607 state_607
-    (node 606 state_606 leaf leaf) leaf)
-    (node 609 state_609 leaf leaf))
-    (node 613 state_613
+    (node 607 state_607 leaf leaf) leaf))
     (node 612 state_612
-    (node 611 state_611 leaf leaf) leaf)
-    (node 614 state_614 leaf leaf)))))
-    (node 636 state_636
-    (node 626 state_626
-    (node 621 state_621
-    (node 618 state_618
-    (node 617 state_617
-    (node 616 state_616 leaf leaf) leaf)
+    (node 611 state_611
+    (node 610 state_610 leaf leaf) leaf)
+    (node 613 state_613 leaf leaf)))
     (node 620 state_620
-    (node 619 state_619 leaf leaf) leaf))
-    (node 624 state_624
+    (node 617 state_617
+    (node 616 state_616
+    (node 615 state_615 leaf leaf) leaf)
+    (node 619 state_619
+    (node 618 state_618 leaf leaf) leaf))
     (node 623 state_623
-    (node 622 state_622 leaf leaf) leaf)
-    (node 625 state_625 leaf leaf)))
+    (node 622 state_622
+    (node 621 state_621 leaf leaf) leaf)
+    (node 624 state_624 leaf leaf))))
+    (node 636 state_636
     (node 631 state_631
-    (node 629 state_629
     (node 628 state_628
-    (node 627 state_627 leaf leaf) leaf)
-    (node 630 state_630 leaf leaf))
+    (node 627 state_627
+    (node 626 state_626 leaf leaf) leaf)
+    (node 630 state_630
+    (node 629 state_629 leaf leaf) leaf))
     (node 634 state_634
     (node 633 state_633
     (node 632 state_632 leaf leaf) leaf)
-    (node 635 state_635 leaf leaf))))
-    (node 646 state_646
+    (node 635 state_635 leaf leaf)))
     (node 641 state_641
     (node 639 state_639
     (node 638 state_638
@@ -10796,22 +11317,55 @@ states =
     (node 644 state_644
     (node 643 state_643
     (node 642 state_642 leaf leaf) leaf)
-    (node 645 state_645 leaf leaf)))
-    (node 651 state_651
+    (node 645 state_645 leaf leaf)))))
+    (node 668 state_668
+    (node 657 state_657
+    (node 652 state_652
     (node 649 state_649
     (node 648 state_648
     (node 647 state_647 leaf leaf) leaf)
-    (node 650 state_650 leaf leaf))
+    (node 651 state_651
+    (node 650 state_650 leaf leaf) leaf))
+    (node 655 state_655
     (node 654 state_654
-    (node 653 state_653
-    (node 652 state_652 leaf leaf) leaf)
-    (node 655 state_655 leaf leaf))))))))
+    (node 653 state_653 leaf leaf) leaf)
+    (node 656 state_656 leaf leaf)))
+    (node 663 state_663
+    (node 660 state_660
+    (node 659 state_659
+    (node 658 state_658 leaf leaf) leaf)
+    (node 662 state_662
+    (node 661 state_661 leaf leaf) leaf))
+    (node 666 state_666
+    (node 665 state_665
+    (node 664 state_664 leaf leaf) leaf)
+    (node 667 state_667 leaf leaf))))
+    (node 679 state_679
+    (node 674 state_674
+    (node 671 state_671
+    (node 670 state_670
+    (node 669 state_669 leaf leaf) leaf)
+    (node 673 state_673
+    (node 672 state_672 leaf leaf) leaf))
+    (node 677 state_677
+    (node 676 state_676
+    (node 675 state_675 leaf leaf) leaf)
+    (node 678 state_678 leaf leaf)))
+    (node 684 state_684
+    (node 682 state_682
+    (node 681 state_681
+    (node 680 state_680 leaf leaf) leaf)
+    (node 683 state_683 leaf leaf))
+    (node 687 state_687
+    (node 686 state_686
+    (node 685 state_685 leaf leaf) leaf)
+    (node 688 state_688 leaf leaf))))))))
 
 -- all of them
 abbrev pub tables : Tables
 tables = record {
   start = 1;
-  finish = 70;
+  finish = 76;
   whole = 0;
   rules = rules;
   sides = sides;

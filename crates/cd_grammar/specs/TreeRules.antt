@@ -22,6 +22,7 @@ use Rattle.cd_grammar.specs.declared.make.Three.TheVariants.{BeforeTrees, NextTr
 use Rattle.cd_grammar.specs.declared.make.Three.TheVariants.{NextSign, Between, Tuple, Interval}
 use Rattle.cd_grammar.specs.declared.make.Three.TheVariants.{Characters, Record, Sequence}
 use Rattle.cd_grammar.specs.declared.make.Three.TheVariants.{SeparateOthers, SeparateFields, Field}
+use Rattle.cd_grammar.specs.declared.make.Three.TheVariants.{TypedOthers}
 use Rattle.cd_grammar.specs.declared.make.Three.TheVariants.{EitherRegular, OrRegular}
 use Rattle.cd_grammar.specs.declared.make.Three.TheVariants.{RegularOrItem, ItemOrRegular}
 use Rattle.cd_grammar.specs.declared.make.Three.TheVariants.{ItemsOrRegular, OrItem, Capture}
@@ -99,12 +100,14 @@ tree_lines =
     ∷ "Bare~ = ^[ Reg~ ']" ⟼ Three Sequence
     ∷ "Bare~ = ^< Tag~ '> Simple~" ⟼ Four Xml
     ∷ "Bare~ = ^< Tag~ Attrs~ '> Simple~" ⟼ Five XmlWith
-    -- Fields = [ Field { ";" Field } [ ";" ] ] [ ".." ]
+    -- Fields = [ Field { ";" Field } [ ";" ] ] [ ".." | "_" "=?" Tree ]
     ∷ "Fields~ = FieldList~" ⟼ One That
     ∷ "Fields~ = FieldList~ ';" ⟼ Two First
-    ∷ "Fields~ = '.." ⟼ One Others
-    ∷ "Fields~ = FieldList~ '.." ⟼ Two AndOthers
-    ∷ "Fields~ = FieldList~ '; '.." ⟼ Three SeparateOthers
+    ∷ "Fields~ = Others~" ⟼ One That
+    ∷ "Fields~ = FieldList~ Others~" ⟼ Two AndOthers
+    ∷ "Fields~ = FieldList~ '; Others~" ⟼ Three SeparateOthers
+    ∷ "Others~ = '.." ⟼ One Others
+    ∷ "Others~ = '_ '=? Tree~" ⟼ Three TypedOthers
     ∷ "FieldList~ = Field~" ⟼ One That
     ∷ "FieldList~ = FieldList~ '; Field~" ⟼ Three SeparateFields
     -- Field = Label ( "=" | "=?" ) Tree
@@ -114,14 +117,16 @@ tree_lines =
     ∷ "Tag~ = Label" ⟼ One Label
     ∷ "Tag~ = '_" ⟼ One Any
     ∷ "Tag~ = ^( Tree~ ')" ⟼ Three Between
-    -- Attrs = { Label ( "=" | "=?" ) Simple [ ";" ] } [ ".." ] | "(" Tree ")"
+    -- Attrs = { Label ( "=" | "=?" ) Simple [ ";" ] } [ ".." | "_" "=?" Simple ] | "(" Tree ")"
     ∷ "Attrs~ = AttrFields~" ⟼ One Attributes
     ∷ "Attrs~ = ^( Tree~ ')" ⟼ Three Between
     ∷ "AttrFields~ = AttrList~" ⟼ One That
     ∷ "AttrFields~ = AttrList~ ';" ⟼ Two First
-    ∷ "AttrFields~ = '.." ⟼ One Others
-    ∷ "AttrFields~ = AttrList~ '.." ⟼ Two AndOthers
-    ∷ "AttrFields~ = AttrList~ '; '.." ⟼ Three SeparateOthers
+    ∷ "AttrFields~ = AttrOthers~" ⟼ One That
+    ∷ "AttrFields~ = AttrList~ AttrOthers~" ⟼ Two AndOthers
+    ∷ "AttrFields~ = AttrList~ '; AttrOthers~" ⟼ Three SeparateOthers
+    ∷ "AttrOthers~ = '.." ⟼ One Others
+    ∷ "AttrOthers~ = '_ '=? Simple~" ⟼ Three TypedOthers
     ∷ "AttrList~ = Attr~" ⟼ One That
     ∷ "AttrList~ = AttrList~ Attr~" ⟼ Two NextFields
     ∷ "AttrList~ = AttrList~ '; Attr~" ⟼ Three SeparateFields
@@ -223,7 +228,11 @@ word_lines =
     ∷ "Label = 'flatten" ⟼ One That
     ∷ "Label = 'int_of" ⟼ One That
     ∷ "Label = 'string_of" ⟼ One That
+    ∷ "Label = 'min_of" ⟼ One That
+    ∷ "Label = 'max_of" ⟼ One That
     ∷ "Label = 'raise" ⟼ One That
+    ∷ "Label = 'select" ⟼ One That
+    ∷ "Label = 'from" ⟼ One That
     ∷ []
 
 -- what stands in patterns alone

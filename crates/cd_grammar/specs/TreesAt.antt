@@ -12,6 +12,7 @@ use Rattle.cd_syntax.specs.Tokens.{at}
 use Rattle.cd_syntax.specs.TypeTree.{Tree, tree, Kind, Builtin, Ints, Chars, Record, Named}
 use Rattle.cd_syntax.specs.TypeTree.{Signed, Field, Declaration, fields_of}
 use Rattle.cd_syntax.specs.TypeTree.{Regular, regular, RegularKind, Item}
+use Rattle.cd_syntax.specs.TypeTree.{Closed}
 
 abbrev pub place : (from to : ℕ) → Span
 place from to = record { from = from; to = to }
@@ -86,7 +87,7 @@ declared_at name from is = record { name = codes name; at = from; tree = is }
 
 -- no attributes, before a `>` at this byte
 abbrev pub no_attributes_at : (from : ℕ) → Tree
-no_attributes_at from = tree_from from from (Record (fields_of []) false)
+no_attributes_at from = tree_from from from (Record (fields_of []) Closed)
 
 -- a type that is one item, and characters that each are one
 abbrev pub item : Tree → Regular

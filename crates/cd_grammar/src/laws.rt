@@ -41,7 +41,8 @@ ghost use Rattle.cd_grammar.specs.Examples.{two_postfixes, two_letters, no_semic
 ghost use Rattle.cd_grammar.specs.Examples.{union_of_attribute, no_part, keyword_alone};
 ghost use Rattle.cd_grammar.specs.Examples.{label_alone, two_types, where_again, begun_arrow};
 ghost use Rattle.cd_grammar.specs.Examples.{no_keyword, no_type_name, semicolons_again};
-ghost use Rattle.cd_grammar.specs.Examples.{begun_declaration};
+ghost use Rattle.cd_grammar.specs.Examples.{begun_declaration, semicolon_after_others};
+ghost use Rattle.cd_grammar.specs.Examples.{others_again};
 
 /// Tokens write one type at most, one list of declarations, and one program's types and functions.
 pub fn tree_is_one()
@@ -177,8 +178,10 @@ pub fn form_fault_examples()
     ensures and_after_letters { IsWrong AType 1000 and_after_letters 2 }
     ensures two_postfixes { IsWrong AType 1000 two_postfixes 3 }
     ensures no_semicolon { IsWrong AType 1000 no_semicolon 4 }
-    ensures no_label { IsWrong AType 1000 no_label 1 }
+    ensures no_label { IsWrong AType 1000 no_label 2 }
     ensures union_of_attribute { IsWrong AType 1000 union_of_attribute 5 }
+    ensures semicolon_after_others { IsWrong AType 1000 semicolon_after_others 4 }
+    ensures others_again { IsWrong AType 1000 others_again 2 }
 {}
 
 /// The first token that cannot stand where it does, by its number, in other types and in

@@ -142,6 +142,14 @@ pub enum Two {
     NoExprFields,
     /// Fields of an expression, and those after them.
     NextExprFields,
+    /// An expression, and what its steps lead to.
+    Path,
+    /// A step to a field.
+    FieldStep,
+    /// A step to the children of a tag.
+    ChildStep,
+    /// A step to an attribute.
+    AttributeStep,
 }
 
 /// What is made of three parts, where most often the second is a sign.
@@ -177,6 +185,8 @@ pub enum Three {
     SeparateFields,
     /// Fields beside which others may stand.
     SeparateOthers,
+    /// No field, beside which others of a type may stand.
+    TypedOthers,
     /// The record of fields between two signs.
     Record,
     /// The sequences of an expression between two signs.
@@ -211,10 +221,14 @@ pub enum Three {
     FirstWithout,
     /// The same after further operators.
     NextWithout,
-    /// A field of a record.
-    FirstSelect,
-    /// The same after further ones.
-    NextSelect,
+    /// A step to a field, and those after it.
+    BeforeFieldStep,
+    /// A step to the children of a tag, and those after it.
+    BeforeChildStep,
+    /// A step to an attribute, and those after it.
+    BeforeAttributeStep,
+    /// A pattern, and the sequence from which it takes items.
+    Source,
     /// A row of two expressions.
     TwoExprs,
     /// A row, and an expression after it.
@@ -257,6 +271,10 @@ pub enum Five {
     DeclaredFunction,
     /// An XML element with attributes, as an expression.
     XmlExprWith,
+    /// A source of a select, and the condition after it.
+    SourceWhere,
+    /// A source of a select, and those after it.
+    BeforeSources,
 }
 
 /// What is made of six parts.
@@ -266,4 +284,6 @@ pub enum Six {
     Let,
     /// A condition, and what is given where it is true and where it is false.
     If,
+    /// What is given for the items that sources give.
+    Selecting,
 }

@@ -7,6 +7,7 @@ ghost use Rattle.cd_grammar.specs.ExprTexts.{constant_exprs, group_exprs, operat
 ghost use Rattle.cd_grammar.specs.ExprTexts.{comparing_exprs, level_exprs, record_operators};
 ghost use Rattle.cd_grammar.specs.ExprTexts.{applied_exprs, sequence_exprs, record_exprs};
 ghost use Rattle.cd_grammar.specs.ExprTexts.{xml_exprs};
+ghost use Rattle.cd_grammar.specs.QueryTexts.{path_exprs, select_exprs};
 ghost use Rattle.cd_grammar.specs.ProgramTexts.{branch_exprs, nested_exprs, let_exprs};
 ghost use Rattle.cd_grammar.specs.ProgramTexts.{function_exprs, programs};
 ghost use Rattle.cd_grammar.specs.ProgramFaults.{wrong_programs, wrong_patterns, wrong_exprs};
@@ -38,6 +39,8 @@ pub fn expression_examples()
     ensures sequences { AreProgramExamples sequence_exprs }
     ensures records { AreProgramExamples record_exprs }
     ensures xml { AreProgramExamples xml_exprs }
+    ensures paths { AreProgramExamples path_exprs }
+    ensures selects { AreProgramExamples select_exprs }
 {}
 
 /// Expressions with branches or functions, and whole programs. A `|` belongs to the branches that

@@ -10,7 +10,7 @@ use crate::make::Make;
 use crate::tables::{ACTIONS, GOTOS, LEFTS, LENGTHS, MAKES, NONTERMINALS, TERMINALS};
 
 /// The terminal of the end of a text.
-pub const END: u8 = 70;
+pub const END: u8 = 76;
 
 /// What the automaton does next.
 #[derive(Clone, Copy)]

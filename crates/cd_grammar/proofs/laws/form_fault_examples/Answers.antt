@@ -1,4 +1,4 @@
-use Rattle.cd_grammar.proofs.Examples.{comma_after_group_is_wrong, and_after_group_is_wrong, and_after_letters_is_wrong, two_postfixes_is_wrong, no_semicolon_is_wrong, no_label_is_wrong, union_of_attribute_is_wrong}
+use Rattle.cd_grammar.proofs.Examples.{comma_after_group_is_wrong, and_after_group_is_wrong, and_after_letters_is_wrong, two_postfixes_is_wrong, no_semicolon_is_wrong, no_label_is_wrong, union_of_attribute_is_wrong, semicolon_after_others_is_wrong, others_again_is_wrong}
 use Rattle.cd_grammar.proofs.laws.form_fault_examples.Goals as goal
 
 pub returns-clause-comma_after_group : goal.returns-clause-comma_after_group
@@ -21,3 +21,9 @@ returns-clause-no_label c = no_label_is_wrong
 
 pub returns-clause-union_of_attribute : goal.returns-clause-union_of_attribute
 returns-clause-union_of_attribute c = union_of_attribute_is_wrong
+
+pub returns-clause-semicolon_after_others : goal.returns-clause-semicolon_after_others
+returns-clause-semicolon_after_others c = semicolon_after_others_is_wrong
+
+pub returns-clause-others_again : goal.returns-clause-others_again
+returns-clause-others_again c = others_again_is_wrong

@@ -1,3 +1,4 @@
+use Rattle.cd_grammar.proofs.QueryTexts.{path_exprs_are, select_exprs_are}
 use Rattle.cd_grammar.proofs.ExprTexts.{constant_exprs_are, group_exprs_are, operator_exprs_are, comparing_exprs_are, level_exprs_are, record_operators_are, applied_exprs_are, sequence_exprs_are, record_exprs_are, xml_exprs_are}
 use Rattle.cd_grammar.proofs.program_laws.expression_examples.Goals as goal
 
@@ -30,3 +31,9 @@ returns-clause-records c = record_exprs_are
 
 pub returns-clause-xml : goal.returns-clause-xml
 returns-clause-xml c = xml_exprs_are
+
+pub returns-clause-paths : goal.returns-clause-paths
+returns-clause-paths c = path_exprs_are
+
+pub returns-clause-selects : goal.returns-clause-selects
+returns-clause-selects c = select_exprs_are
