@@ -8,3 +8,6 @@ mod Stacks
 mod Steps
 mod Agreement
 mod Beginning
+mod Reversed
+mod PathsLed
+mod Selected

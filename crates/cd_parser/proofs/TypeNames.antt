@@ -1,6 +1,6 @@
 -- No keyword begins as the name of a type does.
 use Rattle.std.proofs.Common.{◌≡◌, ◌∙◌, sym, ap, subst, refl, ℕ, List, [], ◌∷◌, Bool, true, false, None, codes}
-use Rattle.std.specs.Prelude.{bytes_eq, if◌then◌else◌}
+use Rattle.std.specs.Prelude.{bytes_eq}
 use Rattle.std.specs.Int.{is_in_range}
 use Rattle.std.specs.List.{list_all}
 use Rattle.std.proofs.lemmas.Bool.{and_parts}
@@ -47,7 +47,7 @@ no_keyword [] is = absurd cc
 no_keyword (c ∷ text) is = none_among c text keywords is refl
 
 -- so its terminal is that of such names
-pub named_type : (name : Name) → is_type_name name ≡ true → 65 ≡ terminal_of_word name
+pub named_type : (name : Name) → is_type_name name ≡ true → 71 ≡ terminal_of_word name
 named_type [] is = absurd cc
 named_type (c ∷ text) is =
     sym (ap (λ found. terminal_by found (c ∷ text)) (no_keyword (c ∷ text) is)

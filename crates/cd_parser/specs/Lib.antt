@@ -7,3 +7,4 @@ pub mod PlainSteps
 pub mod Ahead
 pub mod Reading
 pub mod Parsed
+pub mod Queries

@@ -8,6 +8,8 @@ pub(crate) struct Cell<'t> {
     pub(crate) state: u16,
     /// How many levels may open after it.
     pub(crate) room: usize,
+    /// How many steps of paths and sources of selects stand one in the other in it.
+    pub(crate) nested: usize,
     /// Where it stands.
     pub(crate) span: Span,
     /// What it is.

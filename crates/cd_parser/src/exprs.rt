@@ -173,43 +173,6 @@ pub(crate) fn next_without<'t>(
     }
 }
 
-/// A field of a record.
-pub(crate) fn first_select<'t>(
-    alloc: Global,
-    first: Part<'t>,
-    label: Part<'t>,
-) -> Result<Part<'t>, AllocError>
-    ensures { IfOk result (λ made.
-        plain_part made ≡ actions.first_select (plain_part first.entry) (plain_part label.entry)) }
-{
-    match expr_of(first).zip(token_of(label)) {
-        Some((first, label)) => {
-            let tail = Tail::select(name_of(alloc, label)?);
-            Ok(Part::Chain(first, row_of(alloc, tail)?))
-        }
-        None => Ok(Part::Junk),
-    }
-}
-
-/// The same after further ones.
-pub(crate) fn next_select<'t>(
-    alloc: Global,
-    chain: Part<'t>,
-    label: Part<'t>,
-) -> Result<Part<'t>, AllocError>
-    ensures { IfOk result (λ made.
-        plain_part made ≡ actions.next_select (plain_part chain.entry) (plain_part label.entry)) }
-{
-    match chain_of(chain).zip(token_of(label)) {
-        Some((chain, label)) => {
-            let (first, rest) = chain;
-            let tail = Tail::select(name_of(alloc, label)?);
-            Ok(Part::Chain(first, added(rest, tail)?))
-        }
-        None => Ok(Part::Junk),
-    }
-}
-
 /// Operators of one level after their first operand.
 pub(crate) fn chain<'t>(alloc: Global, here: Span, is: Part<'t>) -> Result<Part<'t>, AllocError>
     ensures { IfOk result (λ made. plain_part made ≡ actions.chain here (plain_part is.entry)) }

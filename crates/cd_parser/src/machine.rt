@@ -66,6 +66,7 @@ impl State<'_> {
         let cell = Cell {
             state: to,
             room,
+            nested: 0,
             span: token.span,
             part: Part::Token(token),
         };

@@ -14,6 +14,7 @@ use crate::part::Part;
 use crate::patterns::{constant, default, variable};
 use crate::records::{fields, label, others, xml, xml_with};
 use crate::regular::{alternatives, in_turn};
+use crate::selects::{before_sources, selecting, source_where};
 use crate::sequences::{item, run};
 use crate::trees::{arrows, meet, union};
 use crate::values::{label_expr, one_item, record_expr, run_item, xml_expr, xml_expr_with};
@@ -148,6 +149,16 @@ pub(crate) fn of_five<'t>(
             drop(d);
             xml_expr_with(alloc, here, b, c, e)
         }
+        Five::SourceWhere => {
+            drop(b);
+            drop(d);
+            source_where(alloc, a, c, e)
+        }
+        Five::BeforeSources => {
+            drop(b);
+            drop(d);
+            before_sources(a, c, e)
+        }
     }
 }
 
@@ -168,10 +179,22 @@ pub(crate) fn of_six<'t>(
 {
     let (a, b, c, d, e, f) = parts;
     drop(a);
-    drop(c);
-    drop(e);
     match make {
-        Six::Let => let_in(alloc, here, b, d, f),
-        Six::If => if_else(alloc, here, b, d, f),
+        Six::Let => {
+            drop(c);
+            drop(e);
+            let_in(alloc, here, b, d, f)
+        }
+        Six::If => {
+            drop(c);
+            drop(e);
+            if_else(alloc, here, b, d, f)
+        }
+        Six::Selecting => {
+            drop(b);
+            drop(d);
+            drop(f);
+            selecting(alloc, here, c, e)
+        }
     }
 }

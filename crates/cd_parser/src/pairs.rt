@@ -9,6 +9,7 @@ use crate::exprs::{call, next_expr, two_exprs};
 use crate::functions::{next_branches, next_function, next_type};
 use crate::names::{file, next_names};
 use crate::part::Part;
+use crate::paths::{attribute_step, child_step, field_step, path};
 use crate::patterns::nil;
 use crate::records::{and_others, next_fields, no_fields};
 use crate::regular::{item_regular, next_regular, two_regulars};
@@ -38,11 +39,13 @@ pub(crate) fn of_two<'t>(
             drop(b);
             Ok(a)
         }
-        Two::AndOthers => {
-            drop(b);
-            Ok(and_others(a))
-        }
-        Two::Second | Two::EmptySequence | Two::File | Two::Call(_) | Two::Splice => {
+        Two::AndOthers => Ok(and_others(a, b)),
+        Two::Second
+        | Two::EmptySequence
+        | Two::File
+        | Two::Call(_)
+        | Two::Splice
+        | Two::FieldStep => {
             drop(a);
             of_second(alloc, make, here, b)
         }
@@ -66,6 +69,9 @@ pub(crate) fn of_two<'t>(
         Two::NextApplied => next_expr(a, b),
         Two::NextItems => next_items(a, b),
         Two::NextExprFields => next_expr_fields(a, b),
+        Two::Path => path(alloc, here, a, b),
+        Two::ChildStep => child_step(alloc, a, b),
+        Two::AttributeStep => attribute_step(alloc, a, b),
     }
 }
 
@@ -80,6 +86,7 @@ fn of_second<'t>(alloc: Global, make: Two, here: Span, b: Part<'t>) -> Result<Pa
         Two::File => Ok(file(b)),
         Two::Call(word) => call(alloc, word, here, b),
         Two::Splice => splice(alloc, b),
+        Two::FieldStep => field_step(alloc, b),
         _ => {
             drop(b);
             of_none(alloc, make, here)

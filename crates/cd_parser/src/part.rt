@@ -1,7 +1,10 @@
+use crate::query_parts::{Source, Step};
 use cd_program::expr::{Branch, Expr, FieldExpr, FunctionTree, Item, Signature, Tail};
 use cd_syntax::constant::Constant;
 use cd_syntax::tokens::Token;
-use cd_syntax::type_tree::{Declaration, Declarations, FieldTree, Post, RegTree, SignedTree, Tree};
+use cd_syntax::type_tree::{
+    Declaration, Declarations, FieldTree, Post, RegTree, Rest, SignedTree, Tree,
+};
 
 /// What a rule of the grammar made.
 #[derive(Drop)]
@@ -14,8 +17,8 @@ pub(crate) enum Part<'t> {
     Trees(Vec<Tree>),
     /// A tree, and those after signs.
     Signs(Box<Tree>, Vec<SignedTree>),
-    /// Fields of a record, and whether others may stand beside them.
-    Fields(Vec<FieldTree>, bool),
+    /// Fields of a record, and what stands after them.
+    Fields(Vec<FieldTree>, Rest),
     /// Declarations.
     Names(Vec<Declaration>),
     /// A file of declarations.
@@ -42,6 +45,10 @@ pub(crate) enum Part<'t> {
     Branches(Vec<Branch>),
     /// Arrows of a function.
     Signatures(Vec<Signature>),
+    /// Steps of a path, from the last one to the first.
+    Steps(Vec<Step>),
+    /// Sources of a select, from the last one to the first, and the condition after them.
+    Sources(Vec<Source>, Option<Box<Expr>>),
     /// A function.
     Function(Box<FunctionTree>),
     /// A program: types and functions.

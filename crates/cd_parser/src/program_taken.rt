@@ -1,14 +1,16 @@
 //! What a part of a program is, where it is of one kind.
-ghost use Rattle.std.specs.Prelude.{◌≡◌, map};
+ghost use Rattle.std.specs.Prelude.{◌≡◌, map, reverse};
 ghost use Rattle.std.specs.Option.{option_map};
 ghost use Rattle.cd_syntax.specs.PlainTree.{plain_declaration};
 ghost use Rattle.cd_program.specs.PlainExpr.{plain, plain_tail, plain_item, plain_field};
 ghost use Rattle.cd_program.specs.PlainExpr.{plain_branch, plain_signature, plain_function};
 ghost use Rattle.cd_grammar.specs.Parts.{expr_in, exprs_in, chain_in, items_in, expr_fields_in};
-ghost use Rattle.cd_grammar.specs.Parts.{branches_in, signatures_in, function_in, program_in};
-ghost use Rattle.cd_parser.specs.PlainParts.{plain_part};
+ghost use Rattle.cd_grammar.specs.Parts.{branches_in, signatures_in, steps_in, sources_in};
+ghost use Rattle.cd_grammar.specs.Parts.{function_in, program_in};
+ghost use Rattle.cd_parser.specs.PlainParts.{plain_part, plain_step, plain_source};
 
 use crate::part::Part;
+use crate::query_parts::{Source, Step};
 use cd_program::expr::{Branch, Expr, FieldExpr, FunctionTree, Item, Signature, Tail};
 use cd_syntax::type_tree::Declaration;
 
@@ -101,6 +103,35 @@ pub(crate) fn signatures_of<'t>(part: Part<'t>) -> Option<Vec<Signature>>
 {
     match part {
         Part::Signatures(all) => Some(all),
+        other => {
+            drop(other);
+            None
+        }
+    }
+}
+
+/// The steps that a part is, from the last one to the first.
+pub(crate) fn steps_of<'t>(part: Part<'t>) -> Option<Vec<Step>>
+    ensures { option_map (λ all. reverse (map plain_step all.items)) result
+        ≡ steps_in (plain_part part.entry) }
+{
+    match part {
+        Part::Steps(all) => Some(all),
+        other => {
+            drop(other);
+            None
+        }
+    }
+}
+
+/// The sources that a part is, from the last one to the first, and the condition after them.
+pub(crate) fn sources_of<'t>(part: Part<'t>) -> Option<(Vec<Source>, Option<Box<Expr>>)>
+    ensures { option_map (λ all.
+        (reverse (map plain_source all.0.items), option_map (λ is. plain is.value) all.1)) result
+        ≡ sources_in (plain_part part.entry) }
+{
+    match part {
+        Part::Sources(all, condition) => Some((all, condition)),
         other => {
             drop(other);
             None

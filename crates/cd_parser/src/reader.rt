@@ -69,6 +69,7 @@ fn start<'t>(
     let cell = Cell {
         state: first_state(goal),
         room: most,
+        nested: 0,
         span: Span { from: 0, to: 0 },
         part: Part::Junk,
     };

@@ -1,5 +1,6 @@
 //! Records and XML types.
-ghost use Rattle.std.specs.Prelude.{◌≡◌, true, [], IfOk};
+ghost use Rattle.std.specs.Prelude.{◌≡◌, [], IfOk};
+ghost use Rattle.cd_syntax.specs.TypeTree.{Open};
 ghost use Rattle.cd_syntax.specs.PlainTree.{plain};
 ghost use Rattle.cd_grammar.specs.Parts.{SomeFields};
 ghost use Rattle.cd_grammar.specs.Actions as actions;
@@ -11,7 +12,7 @@ use crate::taken::{fields_of, token_of, tree_of};
 use crate::tree_part::tree_part;
 use crate::words::name_of;
 use cd_syntax::tokens::Span;
-use cd_syntax::type_tree::{FieldTree, Tree, TreeKind};
+use cd_syntax::type_tree::{FieldTree, Rest, Tree, TreeKind};
 use std::alloc::{AllocError, Global};
 
 /// A label with its tree; with true it may be absent.
@@ -28,7 +29,7 @@ pub(crate) fn field<'t>(
         Some((label, is)) => {
             let name = name_of(alloc, label)?;
             let field = FieldTree::new(name, label.span.from, optional, Box::into_inner(is));
-            Ok(Part::Fields(row_of(alloc, field)?, false))
+            Ok(Part::Fields(row_of(alloc, field)?, Rest::closed()))
         }
         None => Ok(Part::Junk),
     }
@@ -40,33 +41,48 @@ pub(crate) fn next_fields<'t>(fields: Part<'t>, more: Part<'t>) -> Result<Part<'
         plain_part made ≡ actions.next_fields (plain_part fields.entry) (plain_part more.entry)) }
 {
     match fields_of(fields).zip(fields_of(more)) {
-        Some((fields, more)) => Ok(Part::Fields(joined(fields.0, more.0)?, false)),
+        Some((fields, more)) => Ok(Part::Fields(joined(fields.0, more.0)?, Rest::closed())),
         None => Ok(Part::Junk),
     }
 }
 
-/// Fields beside which others may stand.
-pub(crate) fn and_others<'t>(fields: Part<'t>) -> Part<'t>
-    ensures { plain_part result ≡ actions.and_others (plain_part fields.entry) }
+/// Fields, and what stands after them.
+pub(crate) fn and_others<'t>(fields: Part<'t>, others: Part<'t>) -> Part<'t>
+    ensures { plain_part result
+        ≡ actions.and_others (plain_part fields.entry) (plain_part others.entry) }
 {
-    match fields_of(fields) {
-        Some((all, _)) => Part::Fields(all, true),
+    match fields_of(fields).zip(fields_of(others)) {
+        Some((fields, others)) => Part::Fields(fields.0, others.1),
+        None => Part::Junk,
+    }
+}
+
+/// No field, beside which others of a type may stand.
+pub(crate) fn typed_others<'t>(alloc: Global, is: Part<'t>) -> Part<'t>
+    ensures { plain_part result ≡ actions.typed_others (plain_part is.entry) }
+{
+    match tree_of(is) {
+        Some(tree) => Part::Fields(Vec::new(alloc), Rest::typed(tree)),
         None => Part::Junk,
     }
 }
 
 /// No field, beside which others may stand.
 pub(crate) fn others<'t>(alloc: Global) -> Part<'t>
-    ensures { plain_part result ≡ SomeFields [] true }
+    ensures { plain_part result ≡ SomeFields [] Open }
 {
-    Part::Fields(Vec::new(alloc), true)
+    Part::Fields(Vec::new(alloc), Rest::open())
 }
 
 /// A record without fields.
 pub(crate) fn no_fields<'t>(alloc: Global, here: Span) -> Result<Part<'t>, AllocError>
     ensures { IfOk result (λ made. plain_part made ≡ actions.no_fields here) }
 {
-    tree_part(alloc, here, TreeKind::record(Vec::new(alloc), false))
+    tree_part(
+        alloc,
+        here,
+        TreeKind::record(Vec::new(alloc), Rest::closed()),
+    )
 }
 
 /// The record of fields.
@@ -75,8 +91,8 @@ pub(crate) fn fields<'t>(alloc: Global, here: Span, is: Part<'t>) -> Result<Part
 {
     match fields_of(is) {
         Some(is) => {
-            let (all, more) = is;
-            tree_part(alloc, here, TreeKind::record(all, more))
+            let (all, rest) = is;
+            tree_part(alloc, here, TreeKind::record(all, rest))
         }
         None => Ok(Part::Junk),
     }
@@ -117,7 +133,7 @@ fn no_attributes(alloc: Global, at: usize) -> Result<Box<Tree>, AllocError>
     ensures { IfOk result (λ is. plain is.value ≡ actions.no_attributes at) }
 {
     let span = Span { from: at, to: at };
-    let none = TreeKind::record(Vec::new(alloc), false);
+    let none = TreeKind::record(Vec::new(alloc), Rest::closed());
     Ok(Box::new(alloc, Tree::new(span, none))?)
 }
 

@@ -11,6 +11,7 @@ ghost use Rattle.cd_parser.specs.Popped.{IsMade};
 
 use crate::cell::Cell;
 use crate::made::of_one;
+use crate::nested::nested_in;
 use crate::part::Part;
 use crate::popped::of_last;
 use cd_grammar::make::{Make, One};
@@ -115,15 +116,19 @@ fn reduce_several<'t>(
         ≡ machine.pushed the_grammar automaton most rule
         (map plain_value (drop at stack.old.items), plain_stack (take at stack.old.items))) }
 {
-    let span = place_of(&stack[at..]);
-    let made = of_last(alloc, make_of(rule), span, at, stack)?;
-    push(most, rule, span, made, stack)
+    let make = make_of(rule);
+    let cells = &stack[at..];
+    let span = place_of(cells);
+    let nested = nested_in(make, cells)?;
+    let made = of_last(alloc, make, span, at, stack)?;
+    push(most, rule, nested, span, made, stack)
 }
 
 // What a rule made is put where its left side leads.
 fn push<'t>(
     most: usize,
     rule: u16,
+    nested: usize,
     span: Span,
     part: Part<'t>,
     stack: &mut Vec<Cell<'t>>,
@@ -136,6 +141,7 @@ fn push<'t>(
     let cell = Cell {
         state,
         room,
+        nested,
         span,
         part,
     };

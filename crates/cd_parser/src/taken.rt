@@ -2,7 +2,7 @@
 ghost use Rattle.std.specs.Prelude.{◌≡◌, map};
 ghost use Rattle.std.specs.Option.{option_map};
 ghost use Rattle.cd_syntax.specs.PlainTree.{plain, plain_signed, plain_field, plain_declaration};
-ghost use Rattle.cd_syntax.specs.PlainTree.{plain_regular};
+ghost use Rattle.cd_syntax.specs.PlainTree.{plain_regular, plain_rest};
 ghost use Rattle.cd_grammar.specs.Parts.{token_in, tree_in, trees_in, signs_in, fields_in};
 ghost use Rattle.cd_grammar.specs.Parts.{names_in, regular_in, regulars_in, mark_in, constant_in};
 ghost use Rattle.cd_parser.specs.PlainParts.{plain_part};
@@ -10,7 +10,7 @@ ghost use Rattle.cd_parser.specs.PlainParts.{plain_part};
 use crate::part::Part;
 use cd_syntax::constant::Constant;
 use cd_syntax::tokens::Token;
-use cd_syntax::type_tree::{Declaration, FieldTree, Post, RegTree, SignedTree, Tree};
+use cd_syntax::type_tree::{Declaration, FieldTree, Post, RegTree, Rest, SignedTree, Tree};
 
 /// The token that a part is.
 pub(crate) fn token_of<'t>(part: Part<'t>) -> Option<&'t Token>
@@ -65,13 +65,13 @@ pub(crate) fn signs_of<'t>(part: Part<'t>) -> Option<(Box<Tree>, Vec<SignedTree>
     }
 }
 
-/// The fields that a part is, and whether others may stand beside them.
-pub(crate) fn fields_of<'t>(part: Part<'t>) -> Option<(Vec<FieldTree>, bool)>
-    ensures { option_map (λ all. (map plain_field all.0.items, all.1)) result
+/// The fields that a part is, and what stands after them.
+pub(crate) fn fields_of<'t>(part: Part<'t>) -> Option<(Vec<FieldTree>, Rest)>
+    ensures { option_map (λ all. (map plain_field all.0.items, plain_rest all.1)) result
         ≡ fields_in (plain_part part.entry) }
 {
     match part {
-        Part::Fields(all, more) => Some((all, more)),
+        Part::Fields(all, rest) => Some((all, rest)),
         other => {
             drop(other);
             None

@@ -15,13 +15,13 @@ pub(crate) fn terminal_of(kind: &TokenKind) -> u8
 {
     match kind {
         TokenKind::Word(name) => terminal_of_word(name),
-        TokenKind::Int(_) => 60,
+        TokenKind::Int(_) => 66,
         TokenKind::Chars(text) => match text.only_character() {
-            Some(_) => 61,
-            None => 62,
+            Some(_) => 67,
+            None => 68,
         },
-        TokenKind::Text(_) => 63,
-        TokenKind::Atom(_) => 64,
+        TokenKind::Text(_) => 69,
+        TokenKind::Atom(_) => 70,
         TokenKind::Sign(sign) => *sign as u8,
     }
 }
@@ -31,9 +31,9 @@ pub(crate) fn terminal_of_goal(goal: Goal) -> u8
     ensures { result ≡ terminal_of_goal goal }
 {
     match goal {
-        Goal::TypeText => 67,
-        Goal::TypeFile => 68,
-        Goal::ProgramText => 69,
+        Goal::TypeText => 73,
+        Goal::TypeFile => 74,
+        Goal::ProgramText => 75,
     }
 }
 
@@ -41,7 +41,7 @@ fn terminal_of_word(name: &Name) -> u8
     ensures { result ≡ terminal_of_word name.now }
 {
     if name.is_type_name() {
-        return 65;
+        return 71;
     }
     match keyword(name.as_str()) {
         Some(word) => terminal_of_keyword(word),
@@ -53,27 +53,31 @@ fn terminal_of_keyword(word: Keyword) -> u8
     ensures { result ≡ terminal_of_keyword word }
 {
     match word {
-        Keyword::Type => 39,
-        Keyword::Let => 40,
-        Keyword::Fun => 41,
-        Keyword::In => 42,
-        Keyword::Match => 43,
-        Keyword::With => 44,
-        Keyword::If => 45,
-        Keyword::Then => 46,
-        Keyword::Else => 47,
-        Keyword::Try => 48,
-        Keyword::Map => 49,
-        Keyword::Transform => 50,
-        Keyword::Where => 51,
-        Keyword::And => 52,
-        Keyword::Div => 53,
-        Keyword::Mod => 54,
-        Keyword::Not => 55,
-        Keyword::Flatten => 56,
-        Keyword::IntOf => 57,
-        Keyword::StringOf => 58,
-        Keyword::Raise => 59,
+        Keyword::Type => 41,
+        Keyword::Let => 42,
+        Keyword::Fun => 43,
+        Keyword::In => 44,
+        Keyword::Match => 45,
+        Keyword::With => 46,
+        Keyword::If => 47,
+        Keyword::Then => 48,
+        Keyword::Else => 49,
+        Keyword::Try => 50,
+        Keyword::Map => 51,
+        Keyword::Transform => 52,
+        Keyword::Where => 53,
+        Keyword::And => 54,
+        Keyword::Div => 55,
+        Keyword::Mod => 56,
+        Keyword::Not => 57,
+        Keyword::Flatten => 58,
+        Keyword::IntOf => 59,
+        Keyword::StringOf => 60,
+        Keyword::MinOf => 61,
+        Keyword::MaxOf => 62,
+        Keyword::Raise => 63,
+        Keyword::Select => 64,
+        Keyword::From => 65,
     }
 }
 
@@ -82,7 +86,7 @@ fn terminal_of_other(name: &Name) -> u8
     ensures { result ≡ terminal_of_other name.now }
 {
     if name.only_character() == Some('_') {
-        return 38;
+        return 40;
     }
-    if name.is_type_name() { 65 } else { 66 }
+    if name.is_type_name() { 71 } else { 72 }
 }

@@ -7,17 +7,18 @@ ghost use Rattle.cd_parser.specs.OfPrograms.{of_program};
 
 use crate::constants::{characters, integers};
 use crate::exprs::{
-    first_operand, first_select, first_without, next_expr, next_operand, next_select, next_without,
-    tuple_expr, two_exprs,
+    first_operand, first_without, next_expr, next_operand, next_without, tuple_expr, two_exprs,
 };
 use crate::functions::{branch, next_signatures, signature, unnamed_function};
 use crate::names::{name, next_names};
 use crate::part::Part;
+use crate::paths::{before_attribute_step, before_child_step, before_field_step};
 use crate::patterns::capture;
-use crate::records::{and_others, field, fields, next_fields};
+use crate::records::{and_others, field, fields, next_fields, typed_others};
 use crate::regular::{
     item_regular, items_or, next_regular, or_item, regular_or_item, two_regulars,
 };
+use crate::selects::source;
 use crate::sequences::sequence;
 use crate::trees::{before_trees, first_sign, next_sign, next_tree, tuple, two_trees, where_names};
 use crate::values::{expr_field, next_expr_fields, record_expr, sequence_expr};
@@ -43,6 +44,12 @@ pub(crate) fn of_three<'t>(
 {
     match make {
         Three::UnnamedFunction => unnamed_function(alloc, here, a, b, c),
+        Three::BeforeChildStep => before_child_step(alloc, a, b, c),
+        Three::BeforeAttributeStep => before_attribute_step(alloc, a, b, c),
+        Three::BeforeFieldStep => {
+            drop(a);
+            before_field_step(alloc, b, c)
+        }
         Three::Between
         | Three::Tuple
         | Three::Record
@@ -110,9 +117,10 @@ fn of_ends<'t>(
         Three::Where => where_names(alloc, here, a, c),
         Three::Field(optional) => field(alloc, optional, a, c),
         Three::SeparateFields => next_fields(a, c),
-        Three::SeparateOthers => {
-            drop(c);
-            Ok(and_others(a))
+        Three::SeparateOthers => Ok(and_others(a, c)),
+        Three::TypedOthers => {
+            drop(a);
+            Ok(typed_others(alloc, c))
         }
         Three::EitherRegular => two_regulars(alloc, a, c),
         Three::OrRegular => next_regular(a, c),
@@ -144,8 +152,7 @@ fn of_program<'t>(
         Three::NextOperand(op) => next_operand(op, a, c),
         Three::FirstWithout => first_without(alloc, a, c),
         Three::NextWithout => next_without(alloc, a, c),
-        Three::FirstSelect => first_select(alloc, a, c),
-        Three::NextSelect => next_select(alloc, a, c),
+        Three::Source => source(alloc, a, c),
         Three::TwoExprs => two_exprs(alloc, a, c),
         Three::NextExpr => next_expr(a, c),
         Three::ExprField => expr_field(alloc, a, c),

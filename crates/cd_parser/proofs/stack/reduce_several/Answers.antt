@@ -19,7 +19,7 @@ returns c =
     ∙ ap (λ items. place_of (map plain_value items))
     (to_end c.args.at c.deref.result.now ∙ ap (drop c.args.at) c.deref.ensures.value ∙ parts.1) in
     let value =
-    built c.args.rule c.make_of.result c.place_of-span.result (plain_part c.in_ok-made.made) cells c.make_of.ensures here so in
+    built c.args.rule c.make_of-make.result c.place_of-span.result (plain_part c.in_ok-made.made) cells c.make_of-make.ensures here so in
     IfOk-equal c.push.result _ _ _ c.push.ensures
     (ap (λ value. put c.args.most c.args.rule value (plain_stack new)) value
     ∙ ap₂ (λ all below. machine.pushed the_grammar automaton c.args.most c.args.rule (map plain_value all, plain_stack below))
