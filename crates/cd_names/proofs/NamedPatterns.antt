@@ -8,7 +8,7 @@ use Rattle.cd_syntax.specs.TypeTree.{Union, Meet, Sequence, Record, Xml}
 use Rattle.cd_syntax.specs.TypeTree.{Variable, Default, Trees, NoTree, ATree, Signs, NoSign, ASign}
 use Rattle.cd_syntax.specs.TypeTree.{Fields, NoField, AField, Regular, regular, RegularKind}
 use Rattle.cd_syntax.specs.TypeTree.{Nothing, Item, Seq, Alt, Repeat, Capture, Regulars, NoRegular}
-use Rattle.cd_syntax.specs.TypeTree.{ARegular}
+use Rattle.cd_syntax.specs.TypeTree.{ARegular, Rest, Closed, Open, Typed}
 use Rattle.cd_syntax.specs.declared.tokens.Span.{Span}
 use Rattle.cd_model.specs.Guarded as guarded
 use Rattle.cd_model.specs.Guarded.{IsOneOf, IsSigned}
@@ -159,6 +159,27 @@ module _ (scope outer seen : Scope) where
         (later_disjoint t (present_trees rest) once),
   )
 
+  -- the fields of a record, whatever its rest is
+  fields_typed : (span : Span) (fields : Fields) (rest : Rest)
+      → IsTyped (tree span (Record fields rest)) → (label : Name) (at : ℕ) (t : Tree)
+      → IsField label at t fields → IsTyped t
+  fields_typed span fields rest typed label at t field =
+      part_typed span (Record fields rest) typed t
+      (faults.IsPart.in_record seen label at t fields rest field)
+
+  record_named : (span : Span) (fields : Fields) (rest : Rest)
+      → IsSound (tree span (Record fields rest)) → IsTyped (tree span (Record fields rest))
+      → AreNamedFields (field_patterns scope fields)
+      → IsNamed (pattern.Record (field_patterns scope fields) true)
+  record_named span fields rest sound typed named = (
+    labels_once scope fields (λ label at again. typed
+        (record { fault = Twice; name = label; at = at })
+        (faults.IsFault.label_twice outer seen span fields rest label at again)),
+    fields_disjoint fields (parts_are_sound span (Record fields rest) sound)
+        (parts_disjoint span (Record fields rest) sound),
+    named,
+  )
+
   module _ (tag attributes content : Tree) (sound : AreSound (tag ∷ attributes ∷ content ∷ []))
       (once : AreDisjoint (tag ∷ attributes ∷ content ∷ [])) where
     attributes_bind : (name : Name) → binds (pattern_of scope attributes) name
@@ -247,15 +268,21 @@ module _ (scope outer seen : Scope) where
           regular_named r fine (λ t among. part_typed span (Sequence r) typed t
               (faults.IsPart.in_sequence seen t r among)),
         )
-    kind_named span (Record fields more) sound typed =
-        let fine = parts_are_sound span (Record fields more) sound in (
-          labels_once scope fields (λ label at again. typed
-              (record { fault = Twice; name = label; at = at })
-              (faults.IsFault.label_twice outer seen span fields more label at again)),
-          fields_disjoint fields fine (parts_disjoint span (Record fields more) sound),
-          fields_named fields fine (λ label at t field. part_typed span (Record fields more) typed t
-              (faults.IsPart.in_record seen label at t fields more field)),
-        )
+    kind_named span (Record fields Closed) sound typed =
+        record_named span fields Closed sound typed
+        (fields_named fields (parts_are_sound span (Record fields Closed) sound)
+        (fields_typed span fields Closed typed))
+    kind_named span (Record fields Open) sound typed =
+        record_named span fields Open sound typed
+        (fields_named fields (parts_are_sound span (Record fields Open) sound)
+        (fields_typed span fields Open typed))
+    kind_named span (Record fields (Typed is)) sound typed = (
+      λ name h. refl,
+      record_named span fields (Typed is) sound typed
+          (fields_named fields (parts_are_sound span (Record fields (Typed is)) sound)
+          (fields_typed span fields (Typed is) typed)),
+      (λ name h. refl, tt, tt),
+    )
     kind_named span (Xml tag attributes content) sound typed =
         let fine = parts_are_sound span (Xml tag attributes content) sound in
         let types = part_typed span (Xml tag attributes content) typed in

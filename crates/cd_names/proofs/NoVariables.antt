@@ -8,11 +8,13 @@ use Rattle.cd_syntax.specs.TypeTree.{Variable, Default, Trees, NoTree, ATree, Si
 use Rattle.cd_syntax.specs.TypeTree.{Fields, NoField, AField, Declarations, NoDeclaration}
 use Rattle.cd_syntax.specs.TypeTree.{ADeclaration, Regular, regular, RegularKind, Nothing, Item}
 use Rattle.cd_syntax.specs.TypeTree.{Seq, Alt, Repeat, Capture, Regulars, NoRegular, ARegular}
+use Rattle.cd_syntax.specs.TypeTree.{Rest, Closed, Open, Typed}
 use Rattle.cd_matching.specs.WrittenPattern.{has_variable, kind_has, trees_have, signs_have}
-use Rattle.cd_matching.specs.WrittenPattern.{fields_have, declarations_have, regular_has}
+use Rattle.cd_matching.specs.WrittenPattern.{fields_have, rest_has, declarations_have, regular_has}
 use Rattle.cd_matching.specs.WrittenPattern.{regular_kind_has, regulars_have}
 use Rattle.cd_variables.specs.Occurrences.{Occurrence, variables, variables_in, variables_of_all}
 use Rattle.cd_variables.specs.Occurrences.{variables_of_signs, variables_of_fields}
+use Rattle.cd_variables.specs.Occurrences.{variables_of_rest}
 use Rattle.cd_variables.specs.Occurrences.{variables_of_declarations, variables_of_regular}
 use Rattle.cd_variables.specs.Occurrences.{variables_of_regular_kind, variables_of_regulars}
 use Rattle.cd_variables.specs.Occurrences.{takes_away, bound, bound_in, bound_by_all, bound_by_signs}
@@ -44,7 +46,10 @@ mutual
       or_from (has_variable first) (signs_have signs) (no_variable first parts.0)
       (none_in_signs signs parts.1)
   none_in_kind at (Sequence r) h = none_in_regular r h
-  none_in_kind at (Record fields more) h = none_in_fields fields h
+  none_in_kind at (Record fields rest) h =
+      let parts = none_in_both (variables_of_fields fields) (variables_of_rest rest) h in
+      or_from (fields_have fields) (rest_has rest) (none_in_fields fields parts.0)
+      (none_in_rest rest parts.1)
   none_in_kind at (Xml tag attributes content) h =
       let parts = none_in_both (variables tag ++ variables attributes) (variables content) h in
       let before = none_in_both (variables tag) (variables attributes) parts.0 in
@@ -79,6 +84,11 @@ mutual
       let parts = none_in_both (variables t) (variables_of_fields rest) h in
       or_from (has_variable t) (fields_have rest) (no_variable t parts.0)
       (none_in_fields rest parts.1)
+
+  none_in_rest : (rest : Rest) → variables_of_rest rest ≡ [] → rest_has rest ≡ false
+  none_in_rest Closed h = refl
+  none_in_rest Open h = refl
+  none_in_rest (Typed t) h = no_variable t h
 
   none_in_declarations : (all : Declarations) → variables_of_declarations all ≡ []
       → declarations_have all ≡ false
@@ -121,7 +131,8 @@ mutual
       (signs_bind_none signs parts.1)
   kind_binds_none at (Sequence r) h = both_empty (plain r) (gathered r) (none_plain r h)
       (none_gathered r h)
-  kind_binds_none at (Record fields more) h = fields_bind_none fields h
+  kind_binds_none at (Record fields rest) h =
+      fields_bind_none fields (or_parts (fields_have fields) (rest_has rest) h).0
   kind_binds_none at (Xml tag attributes content) h =
       let parts = or_parts (has_variable tag || has_variable attributes) (has_variable content) h in
       let before = or_parts (has_variable tag) (has_variable attributes) parts.0 in

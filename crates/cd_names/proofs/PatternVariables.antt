@@ -9,7 +9,7 @@ use Rattle.cd_syntax.specs.TypeTree.{Union, Meet, Sequence, Record, Xml}
 use Rattle.cd_syntax.specs.TypeTree.{Variable, Default, Trees, NoTree, ATree, Signs, NoSign, ASign}
 use Rattle.cd_syntax.specs.TypeTree.{Fields, NoField, AField, Regular, regular, RegularKind}
 use Rattle.cd_syntax.specs.TypeTree.{Nothing, Item, Seq, Alt, Repeat, Capture, Regulars, NoRegular}
-use Rattle.cd_syntax.specs.TypeTree.{ARegular}
+use Rattle.cd_syntax.specs.TypeTree.{ARegular, Closed, Open, Typed}
 use Rattle.cd_syntax.specs.declared.tokens.Span.{Span}
 use Rattle.cd_model.specs.Scope.{Scope}
 use Rattle.cd_model.proofs.Ones.{one_on_left, one_on_right}
@@ -155,8 +155,13 @@ module _ (scope : Scope) where
         ∙ two_lists (is_plain (regular_pattern scope r) name)
         (is_gathered (regular_pattern scope r) name) (plain r) (gathered r) name
         (plain_binds r (sequence_is_sound span r sound) name) (gathers r name)
-    kind_binds span (Record fields more) sound name =
-        fields_bound fields (parts_are_sound span (Record fields more) sound) name
+    kind_binds span (Record fields Closed) sound name =
+        fields_bound fields (parts_are_sound span (Record fields Closed) sound) name
+    kind_binds span (Record fields Open) sound name =
+        fields_bound fields (parts_are_sound span (Record fields Open) sound) name
+    kind_binds span (Record fields (Typed is)) sound name =
+        or_nothing (fields_bind (field_patterns scope fields) name)
+        ∙ fields_bound fields (parts_are_sound span (Record fields (Typed is)) sound) name
     kind_binds span (Xml tag attributes content) sound name =
         let fine = parts_are_sound span (Xml tag attributes content) sound in
         three_lists (binds (pattern_of scope tag) name) (binds (pattern_of scope attributes) name)

@@ -1,11 +1,10 @@
 -- Where a pattern has no fault of its variables, its parts have none.
-use Rattle.std.proofs.Common.{◌≡◌, Bool, true, false, List, [], ◌∷◌, ◌++◌, inl, inr, refl, sym}
+use Rattle.std.proofs.Common.{◌≡◌, Bool, true, false, List, ◌∷◌, inl, inr, refl, sym}
 use Rattle.std.proofs.Common.{if◌then◌else◌}
 use Rattle.std.proofs.lemmas.Bool.{true≢false}
 use Rattle.cd_syntax.specs.TypeTree.{Tree, tree, Kind, Item, Regular, regular, RegularKind}
 use Rattle.cd_syntax.specs.TypeTree.{Sequence}
 use Rattle.cd_syntax.specs.declared.tokens.Span.{Span}
-use Rattle.cd_model.specs.AllOf.{AnyOf}
 use Rattle.cd_model.proofs.Ones.{one_on_left, one_on_right}
 use Rattle.cd_resolve.specs.Faults.{Fault}
 use Rattle.cd_variables.specs.Occurrences.{Occurrence, variables}

@@ -16,7 +16,7 @@ ghost use Rattle.cd_names.specs.Inner.TwoByTwo.{two_by_two};
 
 use cd_graph::{Formulas, Graph};
 use cd_program::expr::Interface;
-use cd_resolve::{Names, TypesBatch, WantedType, resolve_types};
+use cd_resolve::{Names, TypesBatch, Want, WantedType, resolve_types};
 use cd_sets::node_id::NodeId;
 use cd_syntax::type_tree::Tree;
 use std::alloc::{AllocError, Global};
@@ -73,10 +73,8 @@ pub fn resolve_arrows(
 fn in_itself(tree: &Tree) -> WantedType<'_>
     ensures { wanted_tree result ≡ plain tree.now }
 {
-    WantedType {
-        tree,
-        outside: false,
-    }
+    let what = Want::Itself;
+    WantedType { tree, what }
 }
 
 // Numbers two by two.

@@ -17,7 +17,7 @@ use Rattle.cd_matching.specs.PatternsAlike.{Alike, AlikeAll, AlikeFields, AlikeR
 use Rattle.cd_matching.specs.PatternsAlike.{AlikeRegulars}
 use Rattle.cd_matching.specs.PlainPattern.{Field, fields_of}
 use Rattle.cd_matching.specs.WrittenPattern.{kind_has, in_scope, outside, pattern_of, kind_pattern}
-use Rattle.cd_matching.specs.WrittenPattern.{tuple_pattern}
+use Rattle.cd_matching.specs.WrittenPattern.{tuple_pattern, others_in}
 use Rattle.cd_matching.specs.WrittenPattern.{patterns, signed_patterns, field_patterns}
 use Rattle.cd_matching.specs.WrittenPattern.{regular_pattern}
 use Rattle.cd_matching.specs.WrittenPattern.{regular_kind_pattern, regular_patterns}
@@ -102,8 +102,16 @@ module _ (Are : NodeId → Written → Type 0) (scope : Scope) where
         (sym (all_later (signed_patterns [] signs) (before.0 ∷ []) before.1))
         ((one.0, later.0), later.1)
     kind_fits (type.Sequence is) ids more begin = regular_fits is ids more begin
-    kind_fits (type.Record fields also) ids more begin =
+    kind_fits (type.Record fields type.Closed) ids more begin =
         let all = fields_fit fields ids more begin in ((all.0, refl), all.1)
+    kind_fits (type.Record fields type.Open) ids more begin =
+        let all = fields_fit fields ids more begin in ((all.0, refl), all.1)
+    kind_fits (type.Record fields (type.Typed is)) ids more begin =
+        let others = in_scope [] (others_in fields is) in
+        let all = fields_fit fields ids (others ∷ more) begin in
+        let left = (fields_filled (field_patterns [] fields) [] ids).1 in
+        let one = next_is others left more all.1 in
+        (((all.0, refl), (one.0, tt)), one.1)
     kind_fits (type.Xml tag attributes content) ids more begin =
         let one = tree_fits tag ids (types_before (pattern_of [] attributes)
         (types_before (pattern_of [] content) more))

@@ -6,17 +6,19 @@ use Rattle.std.proofs.lemmas.List.{append-nil, map-append}
 use Rattle.cd_sets.specs.declared.node_id.NodeId.{NodeId}
 use Rattle.cd_syntax.specs.Name.{Name}
 use Rattle.cd_syntax.specs.TypeTree as type
-use Rattle.cd_syntax.specs.TypeTree.{Tree, Trees, NoTree, ATree}
+use Rattle.cd_syntax.specs.TypeTree.{Tree, Trees, NoTree, ATree, Rest, Closed, Open, Typed}
 use Rattle.cd_matching.specs.Pattern as pattern
 use Rattle.cd_matching.specs.Pattern.{Pattern, Patterns, NoPattern, APattern, Fields, NoField}
 use Rattle.cd_matching.specs.Pattern.{Present, Optional, Regular, Regulars, NoRegular, ARegular}
 use Rattle.cd_matching.specs.PlainPattern.{Field, plain, plain_field}
 use Rattle.cd_matching.specs.declared.pattern.Pat.{Pat}
 use Rattle.cd_matching.specs.declared.pattern.PatField.{PatField}
-use Rattle.cd_matching.specs.WrittenPattern.{pattern_of, tuple_pattern, patterns, field_patterns}
+use Rattle.cd_matching.specs.WrittenPattern.{pattern_of, kind_pattern, tuple_pattern, patterns}
+use Rattle.cd_matching.specs.WrittenPattern.{field_patterns}
 use Rattle.cd_patterns.specs.Inner.Types.{Filled, taken, one_more, filled, all_filled}
 use Rattle.cd_patterns.specs.Inner.Types.{fields_filled}
 use Rattle.cd_patterns.specs.Inner.Types.{regular_filled, regulars_filled, pair_with, paired}
+use Rattle.cd_patterns.specs.Inner.Types.{rest_filled}
 
 -- what was made before these
 abbrev pub with_made : {X : Type 0} → List X → Filled (List X) → Filled (List X)
@@ -89,6 +91,22 @@ tuple_filled (ATree first (ATree next rest)) ids =
     ∙ pair_before one.0 two.0 others
     ∙ ap (λ all. all_paired (with_made (one.0 ∷ []) all)) (sym later)
     ∙ ap all_paired (sym (all_later (patterns [] (ATree next rest)) (one.0 ∷ []) one.1))
+
+-- a record's pattern is of those of its fields
+pub record_filled : (fields : type.Fields) (rest : Rest) (ids left : List NodeId) (all : List Field)
+    (p : Filled (Pattern NodeId))
+    → (all, left) ≡ fields_filled (field_patterns [] fields) [] ids → p ≡ rest_filled all rest left
+    → p ≡ filled (kind_pattern [] (type.Record fields rest)) ids
+record_filled fields rest ids left all p are is =
+    is ∙ ap (λ (made : Filled (List Field)). rest_filled made.0 rest made.1) are ∙ by rest
+  where
+    by : (rest : Rest)
+        → rest_filled (fields_filled (field_patterns [] fields) [] ids).0 rest
+        (fields_filled (field_patterns [] fields) [] ids).1
+        ≡ filled (kind_pattern [] (type.Record fields rest)) ids
+    by Closed = refl
+    by Open = refl
+    by (Typed is) = refl
 
 -- the last two as a pair
 pub last_paired : (init : List (Pattern NodeId)) (first second : Pattern NodeId)

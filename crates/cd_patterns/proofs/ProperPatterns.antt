@@ -84,7 +84,9 @@ module _ (scope : Scope) where
     kind_proper (type.Meet first signs) made =
         (tree_proper first made.0, signs_proper signs made.1)
     kind_proper (type.Sequence is) made = regular_proper is made
-    kind_proper (type.Record fields more) made = fields_proper fields made
+    kind_proper (type.Record fields type.Closed) made = fields_proper fields made.0
+    kind_proper (type.Record fields type.Open) made = fields_proper fields made.0
+    kind_proper (type.Record fields (type.Typed is)) made = (fields_proper fields made.0, (tt, tt))
     kind_proper (type.Xml tag attributes content) made =
         (tree_proper tag made.0, tree_proper attributes made.1, tree_proper content made.2)
     kind_proper (type.Builtin _) made = tt

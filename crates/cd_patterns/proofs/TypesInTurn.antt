@@ -1,14 +1,16 @@
 -- The types of a pattern in turn: those of a tuple, and those before other types.
 use Rattle.std.proofs.Common.{◌≡◌, List, [], ◌∷◌, ◌++◌, refl, sym, ◌∙◌, append_assoc}
 use Rattle.std.proofs.lemmas.List.{append-nil}
-use Rattle.cd_syntax.specs.TypeTree.{Trees, NoTree, ATree}
+use Rattle.cd_syntax.specs.TypeTree as type
+use Rattle.cd_syntax.specs.TypeTree.{Trees, NoTree, ATree, Rest, Closed, Open, Typed}
 use Rattle.cd_model.specs.Written.{Written}
 use Rattle.cd_matching.specs.Pattern as pattern
 use Rattle.cd_matching.specs.Pattern.{Pattern, Patterns, NoPattern, APattern, Fields, NoField}
 use Rattle.cd_matching.specs.Pattern.{Present, Optional, Regular, Regulars, NoRegular, ARegular}
-use Rattle.cd_matching.specs.WrittenPattern.{pattern_of, tuple_pattern, patterns}
+use Rattle.cd_matching.specs.WrittenPattern.{pattern_of, kind_pattern, tuple_pattern, patterns}
+use Rattle.cd_matching.specs.WrittenPattern.{field_patterns}
 use Rattle.cd_patterns.specs.Inner.Types.{types_after, all_after, fields_after, regular_after}
-use Rattle.cd_patterns.specs.Inner.Types.{regulars_after}
+use Rattle.cd_patterns.specs.Inner.Types.{regulars_after, rest_after}
 
 -- those of a tuple are those of its trees
 pub tuple_after : (trees : Trees) (made : List Written)
@@ -17,6 +19,14 @@ tuple_after NoTree made = refl
 tuple_after (ATree first NoTree) made = refl
 tuple_after (ATree first (ATree next rest)) made =
     tuple_after (ATree next rest) (types_after (pattern_of [] first) made)
+
+-- those of a record are those of its fields, and its rest
+pub record_after : (fields : type.Fields) (rest : Rest) (made : List Written)
+    → types_after (kind_pattern [] (type.Record fields rest)) made
+    ≡ rest_after fields rest (fields_after (field_patterns [] fields) made)
+record_after fields Closed made = refl
+record_after fields Open made = refl
+record_after fields (Typed is) made = refl
 
 -- the types of a pattern before these
 abbrev mutual

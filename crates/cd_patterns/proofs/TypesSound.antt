@@ -1,6 +1,6 @@
 -- The types of a well made pattern are well made, and no naming fault stands in one where none
 -- stands in the pattern.
-use Rattle.std.proofs.Common.{ℕ, Bool, true, false, cond, List, []}
+use Rattle.std.proofs.Common.{ℕ, Bool, true, false, cond, List, [], ◌∷◌}
 use Rattle.cd_syntax.specs.Name.{Name}
 use Rattle.cd_syntax.specs.declared.builtin.BuiltinName.TheVariants as builtin
 use Rattle.cd_syntax.specs.declared.tokens.Span.{Span}
@@ -21,11 +21,11 @@ use Rattle.cd_model.specs.Scope.{Scope}
 use Rattle.cd_model.specs.Written.{Written}
 use Rattle.cd_matching.specs.Pattern as pattern
 use Rattle.cd_matching.specs.WrittenPattern.{kind_has, in_scope, outside, pattern_of, kind_pattern}
-use Rattle.cd_matching.specs.WrittenPattern.{tuple_pattern}
+use Rattle.cd_matching.specs.WrittenPattern.{tuple_pattern, free_fields, others_in}
 use Rattle.cd_matching.specs.WrittenPattern.{patterns, signed_patterns, field_patterns}
 use Rattle.cd_matching.specs.WrittenPattern.{regular_pattern}
 use Rattle.cd_matching.specs.WrittenPattern.{regular_kind_pattern, regular_patterns}
-use Rattle.cd_resolve.specs.Faults.{Fault, IsField, IsItem, IsItemOfOne, IsPart, IsFault}
+use Rattle.cd_resolve.specs.Faults.{Fault, IsField, LabelAgain, IsItem, IsItemOfOne, IsPart, IsFault}
 use Rattle.cd_resolve.specs.Faults as naming
 use Rattle.cd_patterns.proofs.TypesInTurn.{types_before, all_before, fields_before, regular_before}
 use Rattle.cd_patterns.proofs.TypesInTurn.{regulars_before}
@@ -56,6 +56,58 @@ none_outside scope span kind none fault
     (naming.IsPart.in_signed _ _ _ _ (guarded.IsSigned.later _ _ _ _ on)) wrong) =
     elim on [ ]
 
+-- none in fields that may be absent or anything, where no label of them stands twice
+free_any : (scope : Scope) (fields : Fields) (label : Name) (at : ℕ) (is : Tree)
+    → IsField label at is (free_fields fields) → (fault : Fault) → IsFault scope scope is fault → ⊥
+free_any scope NoField label at is one fault wrong = elim one [ ]
+free_any scope (AField name there optional (tree span kind) rest) label at _
+    (naming.IsField.first _ _ _ _ _) fault wrong = none_in_any scope span fault wrong
+free_any scope (AField name there optional (tree span kind) rest) label at is
+    (naming.IsField.later _ _ _ _ _ _ _ _ one) fault wrong =
+    free_any scope rest label at is one fault wrong
+
+free_field : (fields : Fields) (label : Name) (at : ℕ) (is : Tree)
+    → IsField label at is (free_fields fields) → (other : Tree) × IsField label at other fields
+free_field NoField label at is one = elim one [ ]
+free_field (AField name there optional (tree span kind) rest) label at _
+    (naming.IsField.first _ _ _ _ _) =
+    (tree span kind, naming.IsField.first name there optional (tree span kind) rest)
+free_field (AField name there optional (tree span kind) rest) label at is
+    (naming.IsField.later _ _ _ _ _ _ _ _ one) =
+    let found = free_field rest label at is one in
+    (found.0, naming.IsField.later label name at there optional found.0 (tree span kind) rest found.1)
+
+free_again : (fields : Fields) (label : Name) (at : ℕ) → LabelAgain label at (free_fields fields)
+    → LabelAgain label at fields
+free_again NoField label at again = elim again [ ]
+free_again (AField name there optional is rest) label at
+    (naming.LabelAgain.here _ _ _ _ again _ _ one) =
+    let found = free_field rest name at again one in
+    naming.LabelAgain.here name at there optional found.0 is rest found.1
+free_again (AField name there optional is rest) label at
+    (naming.LabelAgain.later _ _ _ _ _ _ _ again) =
+    naming.LabelAgain.later label name at there optional is rest (free_again rest label at again)
+
+none_in_others : (scope : Scope) (fields : Fields) (span : Span) (kind : Kind)
+    → ((label : Name) (at : ℕ) → LabelAgain label at fields → ⊥)
+    → ((fault : Fault) → IsFault scope scope (tree span kind) fault → ⊥)
+    → (fault : Fault) → IsFault scope scope (others_in fields (tree span kind)) fault → ⊥
+none_in_others scope fields span kind once none fault
+    (naming.IsFault.label_twice _ _ _ _ _ label at again) =
+    once label at (free_again fields label at again)
+none_in_others scope fields span kind once none fault
+    (naming.IsFault.in_part _ _ _ _ _ _ _ (naming.IsPart.in_record _ label at is _ _ one) wrong) =
+    free_any scope fields label at is one fault wrong
+none_in_others scope fields span kind once none fault
+    (naming.IsFault.in_part _ _ _ _ _ _ _ (naming.IsPart.in_rest _ _ _) wrong) = none fault wrong
+
+-- they have the labels of the fields
+free_made : (fields : Fields) → AreWellMadePatternFields fields
+    → AreWellMadePatternFields (free_fields fields)
+free_made NoField made = tt
+free_made (AField label at optional (tree span kind) rest) made =
+    (made.0, tt, free_made rest made.2)
+
 module _ (scope : Scope) where
   -- no fault stands in the tree
   abbrev pub NoFault : Tree → Type 0
@@ -76,6 +128,13 @@ module _ (scope : Scope) where
   outside_sound : (is : Tree) → IsSound (in_scope [] is) → IsSound (in_scope [] (outside is))
   outside_sound (tree span kind) sound = ((tt, (sound.0, tt)), none_outside scope span kind sound.1)
 
+  -- the records of a rest are sound, where no label of the fields stands twice
+  others_sound : (fields : Fields) (is : Tree) → AreWellMadePatternFields fields
+      → ((label : Name) (at : ℕ) → LabelAgain label at fields → ⊥) → IsSound (in_scope [] is)
+      → IsSound (in_scope [] (others_in fields is))
+  others_sound fields (tree span kind) made once sound =
+      ((free_made fields made, sound.0), none_in_others scope fields span kind once sound.1)
+
   -- a tree is a type, or what its kind is
   by_kind : (span : Span) (kind : Kind) (more : List Written) → IsSound
       (in_scope [] (tree span kind))
@@ -92,36 +151,51 @@ module _ (scope : Scope) where
         → AllOf IsSound (types_before (pattern_of [] is) more)
     tree_sound (tree span kind) more made none sound =
         by_kind span kind more (made, none) sound
-        (kind_sound kind more made (none_in span kind none) sound)
+        (kind_sound span kind more made none (none_in span kind none) sound)
         (kind_has kind)
 
-    kind_sound : (kind : Kind) (more : List Written) → IsWellMadePatternKind kind → NoneIn kind
-        → AllOf IsSound more
+    kind_sound : (span : Span) (kind : Kind) (more : List Written) → IsWellMadePatternKind kind
+        → NoFault (tree span kind) → NoneIn kind → AllOf IsSound more
         → AllOf IsSound (types_before (kind_pattern [] kind) more)
-    kind_sound (type.Builtin _) more made none sound = sound
-    kind_sound (type.Ints _ _) more made none sound = sound
-    kind_sound (type.Chars _ _) more made none sound = sound
-    kind_sound (type.Atom _) more made none sound = sound
-    kind_sound (type.Text _) more made none sound = sound
-    kind_sound (type.Tuple trees) more made none sound =
+    kind_sound span (type.Builtin _) more made whole none sound = sound
+    kind_sound span (type.Ints _ _) more made whole none sound = sound
+    kind_sound span (type.Chars _ _) more made whole none sound = sound
+    kind_sound span (type.Atom _) more made whole none sound = sound
+    kind_sound span (type.Text _) more made whole none sound = sound
+    kind_sound span (type.Tuple trees) more made whole none sound =
         tuple_sound trees more made.1
         (λ is one. none is (naming.IsPart.in_tuple scope is trees one)) sound
-    kind_sound (type.Arrows _) more made none sound = sound
-    kind_sound (type.Union trees) more made none sound =
+    kind_sound span (type.Arrows _) more made whole none sound = sound
+    kind_sound span (type.Union trees) more made whole none sound =
         all_sound trees more made (λ is one. none is (naming.IsPart.in_union scope is trees one))
         sound
-    kind_sound (type.Meet first signs) more made none sound =
+    kind_sound span (type.Meet first signs) more made whole none sound =
         tree_sound first (all_before (signed_patterns [] signs) more) made.0
         (none first (naming.IsPart.in_first scope first signs))
         (signs_sound signs more made.1
         (λ is one. none is (naming.IsPart.in_signed scope first is signs one)) sound)
-    kind_sound (type.Sequence is) more made none sound =
+    kind_sound span (type.Sequence is) more made whole none sound =
         regular_sound is more made
         (λ item one. none item (naming.IsPart.in_sequence scope item is one)) sound
-    kind_sound (type.Record fields also) more made none sound = fields_sound fields more made
-        (λ label at is one. none is (naming.IsPart.in_record scope label at is fields also one))
+    kind_sound span (type.Record fields type.Closed) more made whole none sound =
+        fields_sound fields more made.0
+        (λ label at is one. none is (naming.IsPart.in_record scope label at is fields type.Closed one))
         sound
-    kind_sound (type.Xml tag attributes content) more made none sound =
+    kind_sound span (type.Record fields type.Open) more made whole none sound =
+        fields_sound fields more made.0
+        (λ label at is one. none is (naming.IsPart.in_record scope label at is fields type.Open one))
+        sound
+    kind_sound span (type.Record fields (type.Typed other)) more made whole none sound =
+        fields_sound fields (in_scope [] (others_in fields other) ∷ more) made.0
+        (λ label at is one. none is
+        (naming.IsPart.in_record scope label at is fields (type.Typed other) one)) (
+          others_sound fields other made.0
+              (λ label at again. whole _
+              (naming.IsFault.label_twice scope scope span fields (type.Typed other) label at again))
+              (made.1, none other (naming.IsPart.in_rest scope fields other)),
+          sound,
+        )
+    kind_sound span (type.Xml tag attributes content) more made whole none sound =
         tree_sound tag (types_before (pattern_of [] attributes)
         (types_before (pattern_of [] content) more)) made.0
         (none tag (naming.IsPart.in_tag scope tag attributes content))
@@ -129,10 +203,10 @@ module _ (scope : Scope) where
         (none attributes (naming.IsPart.in_attributes scope tag attributes content))
         (tree_sound content more made.2
         (none content (naming.IsPart.in_content scope tag attributes content)) sound))
-    kind_sound (type.Named _) more made none sound = sound
-    kind_sound (type.Where _ _) more made none sound = sound
-    kind_sound (type.Variable _) more made none sound = sound
-    kind_sound (type.Default _ _) more made none sound = sound
+    kind_sound span (type.Named _) more made whole none sound = sound
+    kind_sound span (type.Where _ _) more made whole none sound = sound
+    kind_sound span (type.Variable _) more made whole none sound = sound
+    kind_sound span (type.Default _ _) more made whole none sound = sound
 
     tuple_sound : (trees : Trees) (more : List Written) → AreWellMadePatterns trees
         → ((is : Tree) → IsOneOf is trees → NoFault is) → AllOf IsSound more

@@ -4,7 +4,8 @@ ghost use Rattle.cd_syntax.specs.PlainTree.{plain as plain_tree, plain_kind, pla
 ghost use Rattle.cd_syntax.specs.PlainTree.{plain_signs, plain_fields as plain_field_trees};
 ghost use Rattle.cd_syntax.specs.PlainTree.{plain_regular as plain_reg_tree};
 ghost use Rattle.cd_syntax.specs.PlainTree.{plain_regular_kind, plain_regulars as plain_reg_trees};
-ghost use Rattle.cd_syntax.specs.TypeTree.{Tuple, Meet, Xml, ATree};
+ghost use Rattle.cd_syntax.specs.PlainTree.{plain_rest};
+ghost use Rattle.cd_syntax.specs.TypeTree.{Tuple, Meet, Record, Xml, ATree};
 ghost use Rattle.cd_matching.specs.PlainPattern.{plain, plain_field, plain_regular};
 ghost use Rattle.cd_matching.specs.Pattern.{patterns_of};
 ghost use Rattle.cd_matching.specs.WrittenPattern.{pattern_of, kind_pattern, patterns};
@@ -12,13 +13,15 @@ ghost use Rattle.cd_matching.specs.WrittenPattern.{signed_patterns, field_patter
 ghost use Rattle.cd_matching.specs.WrittenPattern.{regular_pattern, regular_kind_pattern};
 ghost use Rattle.cd_matching.specs.WrittenPattern.{regular_patterns};
 ghost use Rattle.cd_patterns.specs.Inner.Types.{filled, all_filled, fields_filled, regular_filled};
-ghost use Rattle.cd_patterns.specs.Inner.Types.{regulars_filled, paired};
+ghost use Rattle.cd_patterns.specs.Inner.Types.{regulars_filled, rest_filled, paired};
 
 use crate::roots::Roots;
 use crate::variables::has_variable;
 use cd_matching::constant;
 use cd_matching::pattern::{Pat, PatField, RegPat};
-use cd_syntax::type_tree::{FieldTrees, RegKind, RegTree, RegTrees, Signed, Tree, TreeKind, Trees};
+use cd_syntax::type_tree::{
+    FieldTrees, RegKind, RegTree, RegTrees, Rest, Signed, Tree, TreeKind, Trees,
+};
 use std::alloc::{AllocError, Global};
 
 /// The pattern that a tree writes, with the next of these nodes in the places of its types.
@@ -52,9 +55,7 @@ fn build_kind(alloc: Global, kind: &TreeKind, roots: &mut Roots<'_>) -> Result<P
             let is = build_regular(alloc, expression, roots)?;
             Ok(Pat::sequence(Box::new(alloc, is)?))
         }
-        TreeKind::Record(fields, more) => {
-            Ok(Pat::record(build_fields(alloc, fields, roots)?, *more))
-        }
+        TreeKind::Record(fields, rest) => build_record(alloc, fields, rest, roots),
         TreeKind::Xml(tag, attributes, content) => {
             build_xml(alloc, tag, attributes, content, roots)
         }
@@ -147,6 +148,22 @@ fn build_xml(
     Ok(Pat::xml(tag, attributes, content))
 }
 
+// A record of the patterns of its fields, with its rest.
+#[cycle(build)]
+fn build_record(
+    alloc: Global,
+    fields: &FieldTrees,
+    rest: &Rest,
+    roots: &mut Roots<'_>,
+) -> Result<Pat, AllocError>
+    ensures { IfOk result (λ pattern. (plain pattern, roots.new.left.now)
+        ≡ filled (kind_pattern [] (Record (plain_field_trees fields.now) (plain_rest rest.now)))
+        roots.old.left.now) }
+{
+    let fields = build_fields(alloc, fields, roots)?;
+    with_rest(alloc, fields, rest, roots)
+}
+
 #[cycle(build)]
 fn build_fields(
     alloc: Global,
@@ -226,4 +243,24 @@ fn build_regulars(
         made.push(build_regular(alloc, expression, roots)?)?;
     }
     Ok(made)
+}
+
+// A record pattern with these fields, beside which a typed rest has the type of its records.
+fn with_rest(
+    alloc: Global,
+    fields: Vec<PatField>,
+    rest: &Rest,
+    roots: &mut Roots<'_>,
+) -> Result<Pat, AllocError>
+    ensures { IfOk result (λ pattern. (plain pattern, roots.new.left.now)
+        ≡ rest_filled (map plain_field fields.items) (plain_rest rest.now) roots.old.left.now) }
+{
+    match rest {
+        Rest::Closed => Ok(Pat::record(fields, false)),
+        Rest::Open => Ok(Pat::record(fields, true)),
+        Rest::Typed(_) => {
+            let others = Pat::of_type(roots.next());
+            Ok(Pat::both(vec![in alloc; Pat::record(fields, true), others]?))
+        }
+    }
 }

@@ -2,11 +2,11 @@
 ghost use Rattle.std.specs.Prelude.{◌≡◌};
 ghost use Rattle.cd_syntax.specs.PlainTree.{plain, plain_kind, plain_trees, plain_signs};
 ghost use Rattle.cd_syntax.specs.PlainTree.{plain_fields, plain_declarations, plain_regular};
-ghost use Rattle.cd_syntax.specs.PlainTree.{plain_regular_kind, plain_regulars};
+ghost use Rattle.cd_syntax.specs.PlainTree.{plain_regular_kind, plain_regulars, plain_rest};
 ghost use Rattle.cd_matching.specs.WrittenPattern as written;
 
 use cd_syntax::type_tree::{
-    Declarations, FieldTrees, RegKind, RegTree, RegTrees, Signed, Tree, TreeKind, Trees,
+    Declarations, FieldTrees, RegKind, RegTree, RegTrees, Rest, Signed, Tree, TreeKind, Trees,
 };
 
 /// Whether a variable stands in a tree: as a pattern, with a constant, or before `::`.
@@ -27,7 +27,7 @@ fn kind_has(kind: &TreeKind) -> bool
         }
         TreeKind::Meet(first, signs) => has_variable(first) || signs_have(signs),
         TreeKind::Sequence(expression) => regular_has(expression),
-        TreeKind::Record(fields, _) => fields_have(fields),
+        TreeKind::Record(fields, rest) => fields_have(fields) || rest_has(rest),
         TreeKind::Xml(tag, attributes, content) => {
             has_variable(tag) || has_variable(attributes) || has_variable(content)
         }
@@ -78,6 +78,16 @@ fn fields_have(fields: &FieldTrees) -> bool
         }
     }
     false
+}
+
+#[cycle(has_variable)]
+fn rest_has(rest: &Rest) -> bool
+    ensures { result ≡ written.rest_has (plain_rest rest.now) }
+{
+    match rest {
+        Rest::Closed | Rest::Open => false,
+        Rest::Typed(tree) => has_variable(tree),
+    }
 }
 
 #[cycle(has_variable)]

@@ -2,20 +2,22 @@
 ghost use Rattle.std.specs.Prelude.{◌≡◌, [], OnOk};
 ghost use Rattle.cd_syntax.specs.PlainTree.{plain, plain_kind, plain_trees, plain_signs};
 ghost use Rattle.cd_syntax.specs.PlainTree.{plain_fields, plain_regular, plain_regular_kind};
-ghost use Rattle.cd_syntax.specs.PlainTree.{plain_regulars};
-ghost use Rattle.cd_syntax.specs.TypeTree.{Tuple};
+ghost use Rattle.cd_syntax.specs.PlainTree.{plain_regulars, plain_rest};
+ghost use Rattle.cd_syntax.specs.TypeTree.{Tuple, Record};
 ghost use Rattle.cd_matching.specs.WrittenPattern.{pattern_of, kind_pattern, patterns};
 ghost use Rattle.cd_matching.specs.WrittenPattern.{signed_patterns, field_patterns};
 ghost use Rattle.cd_matching.specs.WrittenPattern.{regular_pattern, regular_kind_pattern};
 ghost use Rattle.cd_matching.specs.WrittenPattern.{regular_patterns, in_scope};
 ghost use Rattle.cd_matching.specs.WrittenPattern.{outside as outside_of};
 ghost use Rattle.cd_patterns.specs.Inner.Types.{wanted_types, one_more, types_after};
-ghost use Rattle.cd_patterns.specs.Inner.Types.{all_after};
+ghost use Rattle.cd_patterns.specs.Inner.Types.{all_after, rest_after};
 ghost use Rattle.cd_patterns.specs.Inner.Types.{fields_after, regular_after, regulars_after};
 
 use crate::variables::has_variable;
-use cd_resolve::WantedType;
-use cd_syntax::type_tree::{FieldTrees, RegKind, RegTree, RegTrees, Signed, Tree, TreeKind, Trees};
+use cd_resolve::{Want, WantedType};
+use cd_syntax::type_tree::{
+    FieldTrees, RegKind, RegTree, RegTrees, Rest, Signed, Tree, TreeKind, Trees,
+};
 use std::alloc::AllocError;
 
 /// Puts the types of a pattern after those that are there. A tree without variables is a type.
@@ -36,9 +38,29 @@ fn want_type<'t>(tree: &'t Tree, wanted: &mut Vec<WantedType<'t>>) -> Result<(),
     ensures { OnOk result (wanted_types wanted.new.items
         ≡ one_more (wanted_types wanted.old.items) (in_scope [] (plain tree.now))) }
 {
-    let outside = false;
-    wanted.push(WantedType { tree, outside })?;
+    let what = Want::Itself;
+    wanted.push(WantedType { tree, what })?;
     Ok(())
+}
+
+// Puts the records whose other fields are of the type of a rest after those that are there.
+fn want_rest<'t>(
+    fields: &'t FieldTrees,
+    rest: &'t Rest,
+    wanted: &mut Vec<WantedType<'t>>,
+) -> Result<(), AllocError>
+    ensures { OnOk result (wanted_types wanted.new.items
+        ≡ rest_after (plain_fields fields.now) (plain_rest rest.now)
+        (wanted_types wanted.old.items)) }
+{
+    match rest {
+        Rest::Closed | Rest::Open => Ok(()),
+        Rest::Typed(tree) => {
+            let what = Want::Others(fields);
+            wanted.push(WantedType { tree, what })?;
+            Ok(())
+        }
+    }
 }
 
 // Puts what is outside a type after those that are there.
@@ -46,8 +68,8 @@ fn want_outside<'t>(tree: &'t Tree, wanted: &mut Vec<WantedType<'t>>) -> Result<
     ensures { OnOk result (wanted_types wanted.new.items
         ≡ one_more (wanted_types wanted.old.items) (in_scope [] (outside_of (plain tree.now)))) }
 {
-    let outside = true;
-    wanted.push(WantedType { tree, outside })?;
+    let what = Want::Outside;
+    wanted.push(WantedType { tree, what })?;
     Ok(())
 }
 
@@ -64,7 +86,7 @@ fn want_kind<'t>(kind: &'t TreeKind, wanted: &mut Vec<WantedType<'t>>) -> Result
             want_signs(signs, wanted)
         }
         TreeKind::Sequence(expression) => want_regular(expression, wanted),
-        TreeKind::Record(fields, _) => want_fields(fields, wanted),
+        TreeKind::Record(fields, rest) => want_record(fields, rest, wanted),
         TreeKind::Xml(tag, attributes, content) => {
             want(tag, wanted)?;
             want(attributes, wanted)?;
@@ -119,6 +141,21 @@ fn want_signs<'t>(signs: &'t Signed, wanted: &mut Vec<WantedType<'t>>) -> Result
         }
     }
     Ok(())
+}
+
+// A record has the types of its fields, and the records of a typed rest.
+#[cycle(want)]
+fn want_record<'t>(
+    fields: &'t FieldTrees,
+    rest: &'t Rest,
+    wanted: &mut Vec<WantedType<'t>>,
+) -> Result<(), AllocError>
+    ensures { OnOk result (wanted_types wanted.new.items
+        ≡ types_after (kind_pattern [] (Record (plain_fields fields.now) (plain_rest rest.now)))
+        (wanted_types wanted.old.items)) }
+{
+    want_fields(fields, wanted)?;
+    want_rest(fields, rest, wanted)
 }
 
 // Of a field that may be absent a type.

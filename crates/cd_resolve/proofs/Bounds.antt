@@ -10,10 +10,9 @@ use Rattle.cd_syntax.specs.WellMadePattern.{IsWellMadePattern, IsWellMadePattern
 use Rattle.cd_syntax.specs.WellMadePattern.{AreWellMadePatternSigns, AreWellMadePatternFields}
 use Rattle.cd_syntax.specs.WellMadePattern.{AreWellMadePatternDeclarations, IsWellMadePatternRegular}
 use Rattle.cd_syntax.specs.WellMadePattern.{IsWellMadePatternRegularKind, AreWellMadePatternRegulars}
+use Rattle.cd_syntax.specs.WellMadePattern.{IsWellMadePatternRest}
 use Rattle.cd_model.specs.AllOf.{AllOf}
-use Rattle.cd_model.specs.BuiltIns.{node_named}
 use Rattle.cd_model.specs.Formula.{Formula, Field, Xml, Record}
-use Rattle.cd_model.specs.Written.{any_or_none}
 use Rattle.cd_regex.specs.Regular.{Regular}
 use Rattle.cd_regex.specs.Automaton.{sequence_formulas}
 use Rattle.cd_resolve.specs.Inner.Names.{AreBelow}
@@ -24,13 +23,14 @@ use Rattle.cd_resolve.specs.Inner.Members.{Sign, union_of, meet_of}
 use Rattle.cd_resolve.specs.Inner.Solves.{IsNode, AreEquations}
 use Rattle.cd_resolve.specs.Inner.Walk.{unread, entered, settled, one_more, level_after, walked, walked_kind}
 use Rattle.cd_resolve.specs.Inner.Walk.{walked_trees, walked_signs, walked_fields, walked_regular, walked_regular_kind}
-use Rattle.cd_resolve.specs.Inner.Walk.{walked_regulars, walked_declared, walked_list}
+use Rattle.cd_resolve.specs.Inner.Walk.{walked_regulars, walked_rest, walked_declared, walked_list}
 use Rattle.cd_resolve.proofs.Growing.{appends_longer, entered_length, settled_length, pushed_appends, chained_appends}
 use Rattle.cd_resolve.proofs.Growing.{united_appends, met_appends, walked_appends, trees_append, signs_append}
-use Rattle.cd_resolve.proofs.Growing.{fields_append, regular_appends, regulars_append, declared_longer, list_longer}
+use Rattle.cd_resolve.proofs.Growing.{fields_append, rest_appends, regular_appends, regulars_append, declared_longer}
+use Rattle.cd_resolve.proofs.Growing.{list_longer}
 use Rattle.cd_resolve.proofs.MembersKept.{each_more, union_keeps, meet_keeps}
 use Rattle.cd_resolve.proofs.NodesOfWalks.{IsOfNodes, HaveNodes, levels_later, level_has, tree_has, trees_have}
-use Rattle.cd_resolve.proofs.NodesOfWalks.{signs_have, fields_have, regular_asks}
+use Rattle.cd_resolve.proofs.NodesOfWalks.{signs_have, fields_have, rest_has, regular_asks}
 use Rattle.cd_resolve.proofs.NodesBounded.{are_nodes, AreBounded, none_bounded, both_bounded, pushed_bounded}
 use Rattle.cd_resolve.proofs.NodesBounded.{unread_bounded, settled_bounded}
 use Rattle.cd_resolve.proofs.BoundsMade.{integers_leaf, characters_leaf, still, small, leaf_bounded, text_bounded}
@@ -136,14 +136,20 @@ module _ (nodes first : ℕ) (names : List (Name × NodeId))
         sequenced_bounded nodes first names facts count one
         (regular_asks first names (IsNode nodes first) facts levels is s have) long
         (regular_bounded levels is s well have (omega arith) bounded)
-    kind_bounded levels (type.Record fields more) s well have long bounded =
+    kind_bounded levels (type.Record fields rest) s well have long bounded =
         let all = walked_fields first names levels fields [] s in
-        let equation : Equation = Is (Record (sorted all.0) (node_named (any_or_none more))) in
-        let longer = appends_longer all.1 _ (pushed_appends first equation all.1) in
-        recorded_bounded nodes first names facts count more all.0 all.1
+        let other = walked_rest first names levels rest all.1 in
+        let equation : Equation = Is (Record (sorted all.0) other.0) in
+        let longer = appends_longer other.1 _ (pushed_appends first equation other.1) in
+        let middle = appends_longer all.1 other.1 (rest_appends first names levels rest all.1) in
+        let before = appends_longer s all.1 (fields_append first names levels fields [] s) in
+        let on = later (length s) (length all.1) levels before have in
+        recorded_bounded nodes first names facts count all.0 (length all.1) other.0 other.1
         (fields_have first names (IsNode nodes first) facts levels fields [] s have tt)
-        (labels_are levels fields [] s well tt) (omega arith)
-        (fields_bounded levels fields [] s well have (omega arith) bounded)
+        (labels_are levels fields [] s well.0 tt)
+        (rest_has first names (IsNode nodes first) facts levels rest all.1 on) (omega arith) (omega arith)
+        (rest_bounded levels rest all.1 well.1 on (omega arith)
+        (fields_bounded levels fields [] s well.0 have (omega arith) bounded))
     kind_bounded levels (type.Xml tag attributes content) s well have long bounded =
         let one = walked first names levels tag s in
         let two = walked first names levels attributes one.1 in
@@ -221,6 +227,13 @@ module _ (nodes first : ℕ) (names : List (Name × NodeId))
         fields_bounded levels rest (one_more made next) one.1 well.2
         (later (length s) (length one.1) levels before have) long
         (tree_bounded levels is s well.1 have (omega arith) bounded)
+
+    rest_bounded : (levels : ScopeLevels) (rest : type.Rest) (s : Equations) → IsWellMadePatternRest rest
+        → Have (length s) levels → length (walked_rest first names levels rest s).1 ≤ count → Bounded s
+        → Bounded (walked_rest first names levels rest s).1
+    rest_bounded levels type.Closed s well have long bounded = bounded
+    rest_bounded levels type.Open s well have long bounded = bounded
+    rest_bounded levels (type.Typed is) s well have long bounded = tree_bounded levels is s well have long bounded
 
     regular_bounded : (levels : ScopeLevels) (is : type.Regular) (s : Equations) → IsWellMadePatternRegular is
         → Have (length s) levels → length (walked_regular first names levels is s).1 ≤ count → Bounded s

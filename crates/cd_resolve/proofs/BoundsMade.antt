@@ -8,9 +8,7 @@ use Rattle.cd_sets.specs.declared.node_id.NodeId.{NodeId}
 use Rattle.cd_syntax.specs.Integer.{LEAST, GREATEST}
 use Rattle.cd_syntax.specs.Name.{Name, IsLabel}
 use Rattle.cd_model.specs.AllOf.{AllOf}
-use Rattle.cd_model.specs.BuiltIns.{node_named}
 use Rattle.cd_model.specs.Formula.{Formula, Field, Ints, Chars, Pair, Record, IsFormula}
-use Rattle.cd_model.specs.Written.{any_or_none}
 use Rattle.cd_regex.specs.Regular.{AsksBelow}
 use Rattle.cd_regex.specs.Automaton.{sequence_formulas}
 use Rattle.cd_regex.proofs.Holding.{batch_holds}
@@ -22,7 +20,7 @@ use Rattle.cd_resolve.specs.Inner.Walk.{pushed, leaf, walked_text, chained, unit
 use Rattle.cd_resolve.proofs.Growing.{appends_longer, pushed_appends, leaf_appends, chained_appends}
 use Rattle.cd_model.proofs.FormulasAmongMore.{formula_among_more}
 use Rattle.cd_model.proofs.Ones.{each_weaker}
-use Rattle.cd_resolve.proofs.NodesOfWalks.{IsOfNodes, built_in_below, leaf_has, text_has, chained_has}
+use Rattle.cd_resolve.proofs.NodesOfWalks.{IsOfNodes, leaf_has, text_has, chained_has}
 use Rattle.cd_resolve.proofs.NodesBounded.{AreBounded, both_bounded, pushed_bounded, formulas_bounded}
 use Rattle.cd_resolve.proofs.Rising.{sorted_rises}
 use Rattle.cd_resolve.proofs.SortedKept.{sorted_keeps}
@@ -148,19 +146,17 @@ module _ (nodes first : ℕ) (names : List (Name × NodeId))
       (λ formula. formula_among_more (first + length one.1 + length formulas) (first + count) (omega arith) formula)
       formulas sound))
 
-  -- fields, which have the labels that are written
-  pub recorded_bounded : (more : Bool) (fields : List (Name × Field)) (s : Equations)
-      → AllOf (λ field. Node (length s) field.1.type) fields → AllOf (λ field. IsLabel field.0) fields
-      → length s ≤ count → Bounded s
-      → Bounded (pushed first (Is (Record (sorted fields) (node_named (any_or_none more)))) s).1
-  recorded_bounded more fields s each labels long bounded =
-      let rest = node_named (any_or_none more) in
-      let below = facts.below count rest (facts.built_in count rest (built_in_below (any_or_none more))) in
-      pushed_bounded nodes first count (Is (Record (sorted fields) (node_named (any_or_none more)))) s bounded (
+  -- fields, which have the labels that are written, and a rest, which was read after them
+  pub recorded_bounded : (fields : List (Name × Field)) (before : ℕ) (rest : NodeId) (s : Equations)
+      → AllOf (λ field. Node before field.1.type) fields → AllOf (λ field. IsLabel field.0) fields
+      → Node (length s) rest → before ≤ count → length s ≤ count → Bounded s
+      → Bounded (pushed first (Is (Record (sorted fields) rest)) s).1
+  recorded_bounded fields before rest s each labels is short long bounded =
+      pushed_bounded nodes first count (Is (Record (sorted fields) rest)) s bounded (
         sorted_rises fields labels,
         sorted_keeps (λ (field : Name × Field). field.1.type.0 < first + count) fields
-            (each_weaker (λ (field : Name × Field). Node (length s) field.1.type)
+            (each_weaker (λ (field : Name × Field). Node before field.1.type)
             (λ (field : Name × Field). field.1.type.0 < first + count)
-            (λ field. small (length s) field.1.type long) fields each),
-        below,
+            (λ field. small before field.1.type short) fields each),
+        small (length s) rest long is,
       )

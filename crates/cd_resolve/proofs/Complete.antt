@@ -19,11 +19,11 @@ use Rattle.cd_resolve.specs.Faults as fault
 use Rattle.cd_tables.specs.Rows.{row_of}
 use Rattle.cd_resolve.specs.Inner.BuiltinNames.{is_among, is_builtin}
 use Rattle.cd_resolve.specs.Inner.Finding.{ScopeLevels, innermost, Id, DeclaredAt, State, reported_if, entered, met, declared_under}
-use Rattle.cd_resolve.specs.Inner.Finding.{labelled, start_of, found_in, found_in_declared}
+use Rattle.cd_resolve.specs.Inner.Finding.{labelled, start_of, found_in, found_in_fields, found_in_declared}
 use Rattle.cd_resolve.proofs.InLists.{IsIn, in_front, in_last, in_more}
 use Rattle.cd_resolve.proofs.Rich.{whole}
 use Rattle.cd_resolve.proofs.FoundGrows.{Grows, then, if_grows, labelled_grows, walked_grows, fields_grow}
-use Rattle.cd_resolve.proofs.FoundGrows.{declared_grows}
+use Rattle.cd_resolve.proofs.FoundGrows.{rest_grows, declared_grows}
 use Rattle.cd_resolve.proofs.WhatNamesMean.{scope_of, Fits, fits_on, IsNode, declared_at, declared_at_found}
 use Rattle.cd_resolve.proofs.Visits.{Visited, ListVisited, kind_visited, later_late, visits_part, visits_list, under}
 use Rattle.cd_resolve.proofs.Visits.{in_list, under_fits}
@@ -235,9 +235,12 @@ mutual
   complete _ least start levels _ _ _ t same_scope (fault.unknown outer scope span name none) visited =
       inl (visited.grows.faults _ (unknown_reported levels start name span.from visited.before visited.fits (ap (λ scope.
       declared_as scope name) (sym same_scope) ∙ none)))
-  complete _ least start levels _ _ _ t same_scope (fault.label_twice outer scope span fields more label at again)
+  complete _ least start levels _ _ _ t same_scope (fault.label_twice outer scope span fields rest label at again)
       visited =
-      inl ((then _ _ _ (fields_grow levels fields (labelled [] fields visited.before)) visited.grows).faults
+      let labels = labelled [] fields visited.before in
+      let more = then labels _ _ (fields_grow levels fields labels)
+      (rest_grows levels rest (found_in_fields whole levels fields labels)) in
+      inl ((then labels _ _ more visited.grows).faults
       (twice label at) (again_reported label at fields [] visited.before again))
   complete _ least start levels _ _ _ t same_scope (fault.in_part outer scope inner span kind part one is_part is_fault)
       visited =

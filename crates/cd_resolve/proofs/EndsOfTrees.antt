@@ -143,7 +143,7 @@ module _ (first : ℕ) (equations : Equations) where
               ))
           -- a sequence begins in the first state of its automaton
           kind_ends levels (type.Sequence is) id lists equated stands = at_equation id _ equated.1.0 tt
-          kind_ends levels (type.Record fields more) id lists equated stands = at_equation id _ equated.1 tt
+          kind_ends levels (type.Record fields rest) id lists equated stands = at_equation id _ equated.2 tt
           kind_ends levels (type.Xml tag attributes content) id lists equated stands =
               at_equation id (Is (Xml equated.0 equated.1 equated.2)) equated.3 tt
           kind_ends levels (type.Named name) id lists equated stands =

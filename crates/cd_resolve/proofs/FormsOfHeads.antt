@@ -9,6 +9,7 @@ use Rattle.cd_sets.specs.Characters.{is_among}
 use Rattle.cd_sets.specs.Interval.{is_between}
 use Rattle.cd_syntax.specs.Integer.{LEAST, GREATEST}
 use Rattle.cd_syntax.specs.Name.{Name}
+use Rattle.cd_syntax.specs.declared.builtin.BuiltinName.TheVariants as builtin
 use Rattle.cd_syntax.specs.TypeTree as type
 use Rattle.cd_syntax.specs.TypeTree.{Tree, Kind, Trees, NoTree, ATree}
 use Rattle.cd_model.specs.Alike as heads
@@ -17,16 +18,17 @@ use Rattle.cd_model.specs.BuiltIns.{node_named, EMPTY}
 use Rattle.cd_model.specs.AllOf.{AllOf}
 use Rattle.cd_model.specs.Formula as formula
 use Rattle.cd_model.specs.Formula.{Graph, Formula, formula_at}
-use Rattle.cd_model.specs.Scope.{Scope, Declared, names_in, names_in_fields, names_over}
+use Rattle.cd_model.specs.Scope.{Scope, Declared, names_in, names_in_fields, names_in_rest, names_over}
 use Rattle.cd_model.specs.Types.{Head, Integers, Characters, field_of}
 use Rattle.cd_model.specs.Written as written
-use Rattle.cd_model.specs.Written.{WrittenType, kind_of, tuple_rest, arrows_rest, any_or_none, named_in}
+use Rattle.cd_model.specs.Written.{WrittenType, kind_of, tuple_rest, arrows_rest, named_in, rest_in}
 use Rattle.cd_model.specs.Written.{type_named, within}
 use Rattle.cd_model.proofs.Covered.{Covered, each_parts, covered_tree}
 use Rattle.cd_model.proofs.CoveredParts.{covered_first, covered_tuple, covered_argument, covered_arrows, covered_xml}
 use Rattle.cd_model.proofs.FormulasAlike.{built_ins_stand}
 use Rattle.cd_resolve.specs.Inner.Equation.{Equations, Is}
-use Rattle.cd_resolve.specs.Inner.Equates.{IsAt, HasLeaf, Equates, EquatesKind, EquatesChain, EquatesFields, AllEquated}
+use Rattle.cd_resolve.specs.Inner.Equates.{IsAt, HasLeaf, Equates, EquatesKind, EquatesChain, EquatesFields}
+use Rattle.cd_resolve.specs.Inner.Equates.{EquatesRest, AllEquated}
 use Rattle.cd_resolve.specs.Inner.ScopeLevels.{ScopeLevels, scope_of}
 use Rattle.cd_resolve.specs.Inner.Leaves.{Pairs, Arrows, characters}
 use Rattle.cd_resolve.specs.Inner.Solves.{Solves}
@@ -158,6 +160,16 @@ module _ (graph : Graph) (first : ℕ) (equations : Equations) (names : List (Na
       }))
       by_name (inr differs) later = rw equates.0 (rw differs later)
 
+  -- the rest of a record
+  rest_stands : (levels : ScopeLevels) (rest : type.Rest) (id : NodeId) → AllEquated first equations names levels
+      → EquatesRest first equations names levels rest id
+      → AllOf Fact (names_in_rest (scope_of base levels) rest) → AllOf Fact (names_over (scope_of base levels))
+      → StandsHere id (rest_in (scope_of base levels) rest)
+  rest_stands levels type.Closed id around equates facts over = alone (type.Builtin builtin.Empty) id tt equates
+  rest_stands levels type.Open id around equates facts over = alone (type.Builtin builtin.Any) id tt equates
+  rest_stands levels (type.Typed is) id around equates facts over =
+      part_at levels is id around equates (covered_tree Fact (scope_of base levels) is facts over)
+
   -- the forms of nodes
   pub form_at_node : (most : ℕ) (levels : ScopeLevels) (kind : Kind) (id : NodeId) → IsForm kind → IsHere levels kind id
       → IsFormHere most (formula_at graph id) (scope_of base levels) kind
@@ -214,15 +226,16 @@ module _ (graph : Graph) (first : ℕ) (equations : Equations) (names : List (Na
           (written.regular_in (scope_of base levels) expression)
       over = regular_over first equations names base Fact levels is.around is.covered.over expression is.equates.0
           is.equates.2 is.covered.within
-  form_at_node most levels (type.Record all more) id is_form is =
-      as_formula most _ (type.Record all more) id _ is.equates.1
-      (by_its_head most _ (type.Record all more) _ _ _ tt refl refl (heads.records _ _ _ _ (λ label.
-      subst (λ field. FieldsStand StandsHere field
-      (field_of (named_in (scope_of base levels) all) (type_named (any_or_none more)) label))
-      (sym (sorted_fields (node_named (any_or_none more)) is.equates.0 label))
-      (fields_stand levels all is.equates.0 (node_named (any_or_none more)) (type_named (any_or_none more)) label
-      (alone (type.Builtin (any_or_none more)) (node_named (any_or_none more)) tt refl)
-      is.around is.equates.2 is.covered.within is.covered.over))))
+  form_at_node most levels (type.Record all rest) id is_form is =
+      let scope = scope_of base levels in
+      let parts = each_parts Fact (names_in_fields scope all) (names_in_rest scope rest) is.covered.within in
+      as_formula most _ (type.Record all rest) id _ is.equates.2
+      (by_its_head most _ (type.Record all rest) _ _ _ tt refl refl (heads.records _ _ _ _ (λ label.
+      subst (λ field. FieldsStand StandsHere field (field_of (named_in scope all) (rest_in scope rest) label))
+      (sym (sorted_fields is.equates.1 is.equates.0 label))
+      (fields_stand levels all is.equates.0 is.equates.1 (rest_in scope rest) label
+      (rest_stands levels rest is.equates.1 is.around is.equates.4 parts.1 is.covered.over)
+      is.around is.equates.3 parts.0 is.covered.over))))
   form_at_node most levels (type.Xml tag attributes content) id is_form is =
       let parts = covered_xml Fact (scope_of base levels) tag attributes content is.covered in
       as_formula most _ (type.Xml tag attributes content) id _ is.equates.3

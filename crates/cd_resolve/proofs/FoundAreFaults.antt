@@ -1,6 +1,6 @@
 -- Each fault that is found is one, and each link is true.
 use Rattle.std.proofs.Common.{◌≡◌, ℕ, ◌<◌, ◌≤◌, ◌⊎◌, inl, inr, List, [], ◌∷◌, ◌++◌, length, Bool, true, false, Option}
-use Rattle.std.proofs.Common.{Some, None, refl, sym, arith}
+use Rattle.std.proofs.Common.{Some, None, refl, sym, subst, arith}
 use Rattle.std.specs.Prelude.{◌||◌}
 use Rattle.std.specs.List.{slice_get as nth}
 use Rattle.cd_syntax.specs.Name.{Name}
@@ -8,7 +8,7 @@ use Rattle.cd_syntax.specs.TypeTree.{Tree, tree, Kind, Builtin, Ints, Chars, Ato
 use Rattle.cd_syntax.specs.TypeTree.{Sequence, Record, Xml, Named, Where, Variable, Default, Trees, NoTree, ATree}
 use Rattle.cd_syntax.specs.TypeTree.{Signs, NoSign, ASign, Fields, NoField, AField, Declarations, NoDeclaration}
 use Rattle.cd_syntax.specs.TypeTree.{ADeclaration, Regular, regular, RegularKind, Nothing, Item, Seq, Alt, Repeat}
-use Rattle.cd_syntax.specs.TypeTree.{Capture, Regulars, NoRegular, ARegular}
+use Rattle.cd_syntax.specs.TypeTree.{Capture, Regulars, NoRegular, ARegular, Rest, Closed, Open, Typed}
 use Rattle.cd_model.specs.Scope.{Scope, Declared}
 use Rattle.cd_model.specs.Guarded.{IsOneOf, IsSigned, LeadsTo}
 use Rattle.cd_model.specs.Guarded as guarded
@@ -16,17 +16,17 @@ use Rattle.cd_model.specs.Written.{kind_of}
 use Rattle.cd_resolve.specs.declared.fault.NameFault.{NameFault}
 use Rattle.cd_resolve.specs.declared.fault.NameFault.TheVariants.{Unknown, Twice}
 use Rattle.cd_resolve.specs.Faults.{Fault, IsField, LabelAgain, IsItem, IsItemOfOne, IsDeclared, DeclaredAgain, IsFirst}
-use Rattle.cd_resolve.specs.Faults.{IsFault, IsFaultOfList}
+use Rattle.cd_resolve.specs.Faults.{IsPart, IsFault, IsFaultOfList}
 use Rattle.cd_resolve.specs.Faults as fault
 use Rattle.cd_resolve.specs.Inner.BuiltinNames.{is_among, is_builtin}
 use Rattle.cd_resolve.specs.Inner.Finding.{ScopeLevels, innermost, Id, Link, DeclaredAt, State, reported, reported_if, entered, linked}
 use Rattle.cd_resolve.specs.Inner.Finding.{met, declared_under, labelled, start_of, found_in, found_in_kind, found_in_trees}
 use Rattle.cd_resolve.specs.Inner.Finding.{found_in_signs, found_in_fields, found_in_declared, found_in_regular}
-use Rattle.cd_resolve.specs.Inner.Finding.{found_in_regular_kind, found_in_regulars}
+use Rattle.cd_resolve.specs.Inner.Finding.{found_in_regular_kind, found_in_regulars, found_in_rest}
 use Rattle.cd_resolve.proofs.InLists.{IsIn, in_front, in_last, in_more}
 use Rattle.cd_resolve.proofs.Rich.{whole}
 use Rattle.cd_resolve.proofs.FoundGrows.{Grows, same, then, if_grows, entered_grows, labelled_grows, walked_grows}
-use Rattle.cd_resolve.proofs.FoundGrows.{declared_grows, regular_grows}
+use Rattle.cd_resolve.proofs.FoundGrows.{fields_grow, declared_grows, regular_grows}
 use Rattle.cd_resolve.proofs.WhatNamesMean.{scope_of, Fits, fits_on, IsNode, node_on, declared_at, declared_at_found}
 use Rattle.cd_resolve.proofs.WhatNamesMean.{declared_at_none}
 use Rattle.cd_resolve.proofs.Visits.{under, in_list, under_fits}
@@ -356,17 +356,26 @@ mutual
       sound_regular outer least IsWhole levels all s sound fits long
       (λ is item one is_fault. of_whole one (fault.in_part outer (scope_of levels) (scope_of levels) span (Sequence all)
       is one (fault.in_sequence (scope_of levels) is all item) is_fault))
-  sound_kind outer least IsWhole levels start span (Record fields more) s sound fits long starts of_whole =
-      let longer = labelled_grows [] fields s in
-      sound_fields outer least IsWhole levels fields (labelled [] fields s)
+  sound_kind outer least IsWhole levels start span (Record fields rest) s sound fits long starts of_whole =
+      let one_state = labelled [] fields s in
+      let two_state = found_in_fields whole levels fields one_state in
+      let to_one = labelled_grows [] fields s in
+      let to_two = then s one_state two_state to_one (fields_grow levels fields one_state) in
+      sound_rest outer least IsWhole levels rest two_state
+      (sound_fields outer least IsWhole levels fields one_state
       (sound_labelled outer least IsWhole [] fields fields s sound
       (record { again = λ label at is nothing field. elim nothing [ ]; inside = λ label at on. on })
-      (λ label at again. of_whole (twice label at) (fault.label_twice outer (scope_of levels) span fields more label at
+      (λ label at again. of_whole (twice label at) (fault.label_twice outer (scope_of levels) span fields rest label at
       again)))
-      (fits_on s _ levels longer fits) long
+      (fits_on s one_state levels to_one fits) long
       (λ label at is field one is_fault. of_whole one
-      (fault.in_part outer (scope_of levels) (scope_of levels) span (Record fields more) is one
-      (fault.in_record (scope_of levels) label at is fields more field) is_fault))
+      (fault.in_part outer (scope_of levels) (scope_of levels) span (Record fields rest) is one
+      (fault.in_record (scope_of levels) label at is fields rest field) is_fault)))
+      (fits_on s two_state levels to_two fits) long
+      (λ is same one is_fault. of_whole one
+      (fault.in_part outer (scope_of levels) (scope_of levels) span (Record fields rest) is one
+      (subst (λ rest. IsPart (scope_of levels) (Record fields rest) (scope_of levels) is) (sym same)
+      (fault.in_rest (scope_of levels) fields is)) is_fault))
   sound_kind outer least IsWhole levels start span (Xml tag attributes content) s sound fits long starts of_whole =
       let one_state = found_in whole levels None tag s in
       let two_state = found_in whole levels None attributes one_state in
@@ -479,6 +488,17 @@ mutual
       (fits_on s next levels (walked_grows levels None first s) fits) long
       (λ other there is field. of_whole other there is
       (fault.IsField.later other label there at optional is first rest field))
+
+  sound_rest : (outer : Scope) (least : ℕ) (IsWhole : Fault → Type 0) (levels : ScopeLevels) (rest : Rest)
+      (s : State ScopeLevels) → IsSound outer least IsWhole s
+      → Fits s.lists levels → length outer ≤ length (scope_of levels)
+      → ((is : Tree) → rest ≡ Typed is → (one : Fault) → IsFault outer (scope_of levels) is one → IsWhole one)
+      → IsSound outer least IsWhole (found_in_rest whole levels rest s)
+  sound_rest outer least IsWhole levels Closed s sound fits long of_whole = sound
+  sound_rest outer least IsWhole levels Open s sound fits long of_whole = sound
+  sound_rest outer least IsWhole levels (Typed is) s sound fits long of_whole =
+      sound_walked outer least IsWhole levels None is s sound fits long
+      (nothing_led outer s (LeadsTo outer (scope_of levels) (kind_of is))) (of_whole is refl)
 
   pub sound_declared : (outer : Scope) (least : ℕ) (IsWhole : Fault → Type 0) (levels : ScopeLevels) (list : ℕ)
       (seen : List Name) (declarations : Declarations) (s : State ScopeLevels) → IsSound outer least IsWhole s

@@ -8,14 +8,14 @@ use Rattle.cd_syntax.specs.TypeTree.{Tree, tree, Kind, Builtin, Ints, Chars, Ato
 use Rattle.cd_syntax.specs.TypeTree.{Sequence, Record, Xml, Named, Where, Variable, Default, Trees, NoTree, ATree}
 use Rattle.cd_syntax.specs.TypeTree.{Signs, NoSign, ASign, Fields, NoField, AField, Declarations, NoDeclaration}
 use Rattle.cd_syntax.specs.TypeTree.{ADeclaration, Regular, regular, RegularKind, Nothing, Item, Seq, Alt, Repeat}
-use Rattle.cd_syntax.specs.TypeTree.{Capture, Regulars, NoRegular, ARegular}
+use Rattle.cd_syntax.specs.TypeTree.{Capture, Regulars, NoRegular, ARegular, Rest, Closed, Open, Typed}
 use Rattle.cd_resolve.specs.declared.fault.NameFault.{NameFault}
 use Rattle.cd_resolve.specs.Faults.{Fault}
 use Rattle.cd_resolve.specs.Inner.BuiltinNames.{is_among, is_builtin}
 use Rattle.cd_resolve.specs.Inner.Finding.{ScopeLevels, Id, Link, DeclaredAt, State, reported, reported_if, entered, met, declared_under}
 use Rattle.cd_resolve.specs.Inner.Finding.{labelled, start_of, found_in, found_in_kind, found_in_trees, found_in_signs}
 use Rattle.cd_resolve.specs.Inner.Finding.{found_in_fields, found_in_declared, found_in_regular, found_in_regular_kind}
-use Rattle.cd_resolve.specs.Inner.Finding.{found_in_regulars}
+use Rattle.cd_resolve.specs.Inner.Finding.{found_in_regulars, found_in_rest}
 use Rattle.cd_resolve.proofs.GrowingLists.{get_before}
 use Rattle.cd_resolve.proofs.InLists.{IsIn, in_front}
 use Rattle.cd_resolve.proofs.Rich.{whole}
@@ -89,8 +89,11 @@ mutual
   kind_grows levels start at (Meet first signs) s = then s _ _ (walked_grows levels start first s)
       (signs_grow levels start signs (found_in whole levels start first s))
   kind_grows levels start at (Sequence is) s = regular_grows levels is s
-  kind_grows levels start at (Record fields more) s = then s _ _ (labelled_grows [] fields s)
-      (fields_grow levels fields (labelled [] fields s))
+  kind_grows levels start at (Record fields rest) s =
+      let one = labelled [] fields s in
+      let two = found_in_fields whole levels fields one in
+      then s one _ (labelled_grows [] fields s) (then one two _ (fields_grow levels fields one)
+      (rest_grows levels rest two))
   kind_grows levels start at (Xml tag attributes content) s =
       let one = found_in whole levels None tag s in
       let two = found_in whole levels None attributes one in
@@ -128,6 +131,12 @@ mutual
   fields_grow levels NoField s = same s
   fields_grow levels (AField label at optional is rest) s = then s _ _ (walked_grows levels None is s)
       (fields_grow levels rest (found_in whole levels None is s))
+
+  pub rest_grows : (levels : ScopeLevels) (rest : Rest) (s : State ScopeLevels)
+      → Grows s (found_in_rest whole levels rest s)
+  rest_grows levels Closed s = same s
+  rest_grows levels Open s = same s
+  rest_grows levels (Typed is) s = walked_grows levels None is s
 
   pub declared_grows : (levels : ScopeLevels) (list : ℕ) (seen : List Name) (declarations : Declarations) (s : State ScopeLevels)
       → Grows s (found_in_declared whole levels list seen declarations s)

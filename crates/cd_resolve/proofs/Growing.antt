@@ -19,7 +19,7 @@ use Rattle.cd_resolve.specs.Inner.Members.{Sign, union_of, meet_of}
 use Rattle.cd_resolve.specs.Inner.Walk.{Read, unread, entered, settled, pushed, leaf, walked_text, chained, united, met}
 use Rattle.cd_resolve.specs.Inner.Walk.{one_more, level_after, walked, walked_kind, walked_trees, walked_signs}
 use Rattle.cd_resolve.specs.Inner.Walk.{walked_fields, walked_regular, walked_regular_kind, walked_regulars}
-use Rattle.cd_resolve.specs.Inner.Walk.{walked_declared, walked_list}
+use Rattle.cd_resolve.specs.Inner.Walk.{walked_rest, walked_declared, walked_list}
 use Rattle.cd_resolve.proofs.GrowingLists.{get_before, get_set, get_other, set_later}
 
 -- the equations of the first are those of the second, and more may follow
@@ -205,9 +205,11 @@ module _ (first : ℕ) where
       kind_appends levels (type.Sequence is) s =
           let all = walked_regular first names levels is s in
           appends_then s all.1 _ (regular_appends levels is s) (record { more = _; are = refl })
-      kind_appends levels (type.Record fields more) s =
+      kind_appends levels (type.Record fields rest) s =
           let all = walked_fields first names levels fields [] s in
-          appends_then s all.1 _ (fields_append levels fields [] s) (pushed_appends _ all.1)
+          let other = walked_rest first names levels rest all.1 in
+          appends_then s all.1 _ (fields_append levels fields [] s)
+          (appends_then all.1 other.1 _ (rest_appends levels rest all.1) (pushed_appends _ other.1))
       kind_appends levels (type.Xml tag attributes content) s =
           let one = walked first names levels tag s in
           let two = walked first names levels attributes one.1 in
@@ -248,6 +250,12 @@ module _ (first : ℕ) where
           let one = walked first names levels is s in
           appends_then s one.1 _ (walked_appends levels is s)
           (fields_append levels rest (one_more made (label, record { optional = optional; type = one.0 })) one.1)
+
+      pub rest_appends : (levels : ScopeLevels) (rest : type.Rest) (s : Equations)
+          → Appends s (walked_rest first names levels rest s).1
+      rest_appends levels type.Closed s = appends_same s
+      rest_appends levels type.Open s = appends_same s
+      rest_appends levels (type.Typed is) s = walked_appends levels is s
 
       pub regular_appends : (levels : ScopeLevels) (is : type.Regular) (s : Equations)
           → Appends s (walked_regular first names levels is s).1

@@ -1,16 +1,16 @@
 -- Where no fault stands, the names that are declared do not lead back to themselves.
-use Rattle.std.proofs.Common.{◌≡◌, ℕ, ◌⊎◌, inl, inr, List, [], ◌∷◌, ◌++◌, subst}
+use Rattle.std.proofs.Common.{◌≡◌, ℕ, ◌⊎◌, inl, inr, List, [], ◌∷◌, ◌++◌, refl, sym, subst}
 use Rattle.cd_syntax.specs.Name.{Name}
 use Rattle.cd_syntax.specs.declared.tokens.Span.{Span}
 use Rattle.cd_syntax.specs.TypeTree.{Tree, tree, Kind, Builtin, Ints, Chars, Atom, Text, Tuple, Arrows, Union, Meet}
 use Rattle.cd_syntax.specs.TypeTree.{Sequence, Record, Xml, Named, Where, Variable, Default, Trees, NoTree, ATree}
 use Rattle.cd_syntax.specs.TypeTree.{Signs, NoSign, ASign, Fields, NoField, AField, Declarations, NoDeclaration}
 use Rattle.cd_syntax.specs.TypeTree.{ADeclaration, Regular, regular, RegularKind, Nothing, Item, Seq, Alt, Repeat}
-use Rattle.cd_syntax.specs.TypeTree.{Capture, Regulars, NoRegular, ARegular}
+use Rattle.cd_syntax.specs.TypeTree.{Capture, Regulars, NoRegular, ARegular, Rest, Closed, Open, Typed}
 use Rattle.cd_model.specs.AllOf.{AllOf}
 use Rattle.cd_model.specs.Scope.{Scope, Declared, names_in, names_in_kind, names_in_trees, names_in_signs}
 use Rattle.cd_model.specs.Scope.{names_in_fields, names_declared, names_in_regular, names_in_regular_kind}
-use Rattle.cd_model.specs.Scope.{names_in_regulars, names_over}
+use Rattle.cd_model.specs.Scope.{names_in_regulars, names_in_rest, names_over}
 use Rattle.cd_model.specs.Guarded.{IsOneOf, IsSigned, LeadsTo, IsGuarded, NamesAreGuarded}
 use Rattle.cd_model.specs.Guarded as guarded
 use Rattle.cd_model.specs.Written.{kind_of}
@@ -94,8 +94,13 @@ module _ (base : Declarations) (outer : Scope) where
         (λ part one. parts scope part (fault.IsPart.in_signed scope first part signs one)))
     each_in_kind scope span (Sequence is) ends none parts = each_in_regular scope is ends
         (λ part one. parts scope part (fault.IsPart.in_sequence scope part is one))
-    each_in_kind scope span (Record fields more) ends none parts = each_in_fields scope fields ends
-        (λ label at part one. parts scope part (fault.IsPart.in_record scope label at part fields more one))
+    each_in_kind scope span (Record fields rest) ends none parts =
+        each_both Fact (names_in_fields scope fields) (names_in_rest scope rest)
+        (each_in_fields scope fields ends
+        (λ label at part one. parts scope part (fault.IsPart.in_record scope label at part fields rest one)))
+        (each_in_rest scope rest ends (λ part same. parts scope part
+        (subst (λ rest. IsPart scope (Record fields rest) scope part) (sym same)
+        (fault.IsPart.in_rest scope fields part))))
     each_in_kind scope span (Xml tag attributes content) ends none parts =
         each_both Fact (names_in scope tag ++ names_in scope attributes) (names_in scope content)
         (each_both Fact (names_in scope tag) (names_in scope attributes)
@@ -134,6 +139,12 @@ module _ (base : Declarations) (outer : Scope) where
         each_both Fact (names_in scope first) (names_in_signs scope rest)
         (each_in scope first ends (parts first (guarded.IsSigned.first kept first rest)))
         (each_in_signs scope rest ends (λ part one. parts part (guarded.IsSigned.later kept part first rest one)))
+
+    each_in_rest : (scope : Scope) (rest : Rest) → Ends base scope
+        → ((part : Tree) → rest ≡ Typed part → NoFault scope part) → AllOf Fact (names_in_rest scope rest)
+    each_in_rest scope Closed ends parts = tt
+    each_in_rest scope Open ends parts = tt
+    each_in_rest scope (Typed is) ends parts = each_in scope is ends (parts is refl)
 
     each_in_fields : (scope : Scope) (fields : Fields) → Ends base scope
         → ((label : Name) (at : ℕ) (part : Tree) → IsField label at part fields → NoFault scope part)

@@ -53,6 +53,7 @@ pub mod Views
 pub mod TypesArePatterns
 pub mod WellMadeItems
 pub mod Labelled
+pub mod FreeFields
 pub mod Steps
 pub mod Inserted
 pub mod Declaring

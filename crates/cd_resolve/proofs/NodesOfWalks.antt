@@ -25,7 +25,7 @@ use Rattle.cd_resolve.specs.Inner.Members.{Sign, union_of, meet_of}
 use Rattle.cd_resolve.specs.Inner.Walk.{pushed, leaf, walked_text, chained, united, met, one_more, sequenced}
 use Rattle.cd_resolve.specs.Inner.Walk.{level_after, ReadRegular, walked, walked_kind, walked_trees, walked_signs}
 use Rattle.cd_resolve.specs.Inner.Walk.{walked_fields, walked_regular, walked_regular_kind, walked_regulars}
-use Rattle.cd_resolve.specs.Inner.Walk.{walked_list}
+use Rattle.cd_resolve.specs.Inner.Walk.{walked_rest, walked_list}
 use Rattle.cd_resolve.proofs.Growing.{appends_longer, walked_appends, regular_appends, list_longer}
 use Rattle.cd_resolve.proofs.MembersKept.{each_more, union_keeps, meet_keeps}
 use Rattle.cd_resolve.proofs.AsksMore.{asks_more, asks_repeated, ask_all}
@@ -205,7 +205,8 @@ module _ (first : ℕ) (names : List (Name × NodeId)) (Fact : ℕ → NodeId �
         (meet_keeps (λ sign. Fact (length all.1) sign.1) all.0
         (signs_have levels signs ((true, kept.0) ∷ []) kept.1 later (tree_has levels one s have, tt)))
     kind_has levels (type.Sequence is) s have = sequenced_has (walked_regular first names levels is s)
-    kind_has levels (type.Record fields more) s have = pushed_has _ (walked_fields first names levels fields [] s).1
+    kind_has levels (type.Record fields rest) s have =
+        pushed_has _ (walked_rest first names levels rest (walked_fields first names levels fields [] s).1).1
     kind_has levels (type.Xml tag attributes content) s have =
         pushed_has _
         (walked first names levels content
@@ -256,6 +257,12 @@ module _ (first : ℕ) (names : List (Name × NodeId)) (Fact : ℕ → NodeId �
         fields_have levels rest (one_more made next) one.1 (levels_later (length s) (length one.1) levels longer have)
         (one_more_has (λ (field : Name × Field). field.1.type) s one.1 made next longer each
         (tree_has levels is s have))
+
+    pub rest_has : (levels : ScopeLevels) (rest : type.Rest) (s : Equations) → HaveNodes (length s) levels
+        → Fact (length (walked_rest first names levels rest s).1) (walked_rest first names levels rest s).0
+    rest_has levels type.Closed s have = nodes.built_in _ EMPTY (omega arith)
+    rest_has levels type.Open s have = nodes.built_in _ ANY (omega arith)
+    rest_has levels (type.Typed is) s have = tree_has levels is s have
 
     -- an expression asks for nodes below all that come after its items
     pub regular_asks : (levels : ScopeLevels) (is : type.Regular) (s : Equations) → HaveNodes (length s) levels

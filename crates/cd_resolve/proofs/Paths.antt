@@ -9,7 +9,7 @@ use Rattle.cd_syntax.specs.TypeTree.{Tree, tree, Kind, Builtin, Ints, Chars, Ato
 use Rattle.cd_syntax.specs.TypeTree.{Sequence, Record, Xml, Named, Where, Variable, Default, Trees, NoTree, ATree}
 use Rattle.cd_syntax.specs.TypeTree.{Signs, NoSign, ASign, Fields, NoField, AField, Declarations, NoDeclaration}
 use Rattle.cd_syntax.specs.TypeTree.{ADeclaration, Regular, regular, RegularKind, Nothing, Item, Seq, Alt, Repeat}
-use Rattle.cd_syntax.specs.TypeTree.{Capture, Regulars, NoRegular, ARegular}
+use Rattle.cd_syntax.specs.TypeTree.{Capture, Regulars, NoRegular, ARegular, Rest, Closed, Open, Typed}
 use Rattle.cd_model.specs.Scope.{Scope, Declared, declared_as}
 use Rattle.cd_model.specs.Guarded.{LeadsTo}
 use Rattle.cd_model.specs.Guarded as guarded
@@ -18,12 +18,12 @@ use Rattle.cd_resolve.specs.Inner.BuiltinNames.{is_among, is_builtin}
 use Rattle.cd_resolve.specs.Inner.Finding.{ScopeLevels, innermost, Id, Link, DeclaredAt, State, reported_if, entered, met, declared_under}
 use Rattle.cd_resolve.specs.Inner.Finding.{labelled, start_of, found_in, found_in_kind, found_in_trees, found_in_signs}
 use Rattle.cd_resolve.specs.Inner.Finding.{found_in_fields, found_in_declared, found_in_regular, found_in_regular_kind}
-use Rattle.cd_resolve.specs.Inner.Finding.{found_in_regulars}
+use Rattle.cd_resolve.specs.Inner.Finding.{found_in_regulars, found_in_rest}
 use Rattle.cd_resolve.proofs.InLists.{IsIn, in_last}
 use Rattle.cd_resolve.proofs.Rich.{whole}
 use Rattle.cd_resolve.proofs.FoundGrows.{Grows, then, if_grows, entered_grows, met_grows, labelled_grows}
 use Rattle.cd_resolve.proofs.FoundGrows.{walked_grows, trees_grow, signs_grow, fields_grow, declared_grows}
-use Rattle.cd_resolve.proofs.FoundGrows.{regular_grows, regulars_grow}
+use Rattle.cd_resolve.proofs.FoundGrows.{rest_grows, regular_grows, regulars_grow}
 use Rattle.cd_resolve.proofs.WhatNamesMean.{scope_of, Fits, fits_on, IsNode, node_on, declared_at, IsFound, declared_at_found}
 use Rattle.cd_resolve.proofs.WhatNamesMean.{declared_at_none}
 use Rattle.cd_resolve.proofs.Visits.{VisitedKind, ListVisited, kind_visited, later_late, visits_tree, visits_trees}
@@ -113,12 +113,16 @@ mutual
       (new_signs least levels start signs one t (fits_on s one levels more fits)
       (later_late least s one more late) grows)
   new_kind least levels start at (Sequence is) s t fits late grows = new_regular least levels is s t fits late grows
-  new_kind least levels start at (Record fields more) s t fits late grows =
+  new_kind least levels start at (Record fields rest) s t fits late grows =
       let one = labelled [] fields s in
-      let longer = labelled_grows [] fields s in
-      new_then least s one _ t (new_labelled least [] fields s t)
-      (new_fields least levels fields one t (fits_on s one levels longer fits) (later_late least s one longer late)
-      grows)
+      let two = found_in_fields whole levels fields one in
+      let to_one = labelled_grows [] fields s in
+      let far = then s one two to_one (fields_grow levels fields one) in
+      new_then least s two _ t
+      (new_then least s one two t (new_labelled least [] fields s t)
+      (new_fields least levels fields one t (fits_on s one levels to_one fits) (later_late least s one to_one late)
+      (then two _ t (rest_grows levels rest two) grows)))
+      (new_rest least levels rest two t (fits_on s two levels far fits) (later_late least s two far late) grows)
   new_kind least levels start at (Xml tag attributes content) s t fits late grows =
       let one = found_in whole levels None tag s in
       let two = found_in whole levels None attributes one in
@@ -194,6 +198,13 @@ mutual
       new_then least s one _ t (new_walked least levels None is s t fits late
       (then one _ t (fields_grow levels rest one) grows))
       (new_fields least levels rest one t (fits_on s one levels more fits) (later_late least s one more late) grows)
+
+  new_rest : (least : ℕ) (levels : ScopeLevels) (rest : Rest) (s t : State ScopeLevels) → Fits s.lists levels
+      → least ≤ length s.lists
+      → Grows (found_in_rest whole levels rest s) t → New least s (found_in_rest whole levels rest s) t
+  new_rest least levels Closed s t fits late grows = none_new least s t
+  new_rest least levels Open s t fits late grows = none_new least s t
+  new_rest least levels (Typed is) s t fits late grows = new_walked least levels None is s t fits late grows
 
   pub new_declared : (least : ℕ) (levels : ScopeLevels) (list : ℕ) (seen : List Name) (declarations : Declarations)
       (s t : State ScopeLevels) → Fits s.lists levels → least ≤ length s.lists

@@ -8,12 +8,12 @@ use Rattle.cd_syntax.specs.TypeTree.{Tree, tree, Kind, Builtin, Ints, Chars, Ato
 use Rattle.cd_syntax.specs.TypeTree.{Sequence, Record, Xml, Named, Where, Variable, Default, Trees, NoTree, ATree}
 use Rattle.cd_syntax.specs.TypeTree.{Signs, NoSign, ASign, Fields, NoField, AField, Declarations, NoDeclaration}
 use Rattle.cd_syntax.specs.TypeTree.{ADeclaration, Regular, regular, RegularKind, Nothing, Item, Seq, Alt, Repeat}
-use Rattle.cd_syntax.specs.TypeTree.{Capture, Regulars, NoRegular, ARegular}
+use Rattle.cd_syntax.specs.TypeTree.{Capture, Regulars, NoRegular, ARegular, Rest, Closed, Open, Typed}
 use Rattle.cd_resolve.specs.Inner.BuiltinNames.{is_among, is_builtin}
 use Rattle.cd_resolve.specs.Inner.Finding.{ScopeLevels, innermost, Id, DeclaredAt, State, reported_if, entered, met, declared_under}
 use Rattle.cd_resolve.specs.Inner.Finding.{labelled, start_of, found_in, found_in_kind, found_in_trees, found_in_signs}
 use Rattle.cd_resolve.specs.Inner.Finding.{found_in_fields, found_in_declared, found_in_regular, found_in_regular_kind}
-use Rattle.cd_resolve.specs.Inner.Finding.{found_in_regulars, found_in_list}
+use Rattle.cd_resolve.specs.Inner.Finding.{found_in_regulars, found_in_rest, found_in_list}
 
 -- the levels that each list of declarations stands under, its own the first, are kept
 abbrev pub whole : ScopeLevels → ScopeLevels
@@ -58,9 +58,11 @@ mutual
       ∙ lean_signs levels start signs
       (found_in whole levels start first s)
   lean_kind levels start at (Sequence is) s = lean_regular levels is s
-  lean_kind levels start at (Record fields more) s =
-      ap (found_in_fields innermost levels fields) (lean_labelled [] fields s) ∙ lean_fields levels fields
-      (labelled [] fields s)
+  lean_kind levels start at (Record fields rest) s =
+      ap (λ s. found_in_rest innermost levels rest (found_in_fields innermost levels fields s))
+      (lean_labelled [] fields s)
+      ∙ ap (found_in_rest innermost levels rest) (lean_fields levels fields (labelled [] fields s))
+      ∙ lean_rest levels rest (found_in_fields whole levels fields (labelled [] fields s))
   lean_kind levels start at (Xml tag attributes content) s =
       ap (λ s. found_in innermost levels None content (found_in innermost levels None attributes s))
       (lean_walked levels None tag s)
@@ -108,6 +110,12 @@ mutual
   lean_fields levels NoField s = refl
   lean_fields levels (AField label at optional is rest) s = ap (found_in_fields innermost levels rest)
       (lean_walked levels None is s) ∙ lean_fields levels rest (found_in whole levels None is s)
+
+  lean_rest : (levels : ScopeLevels) (rest : Rest) (s : State ScopeLevels)
+      → found_in_rest innermost levels rest (lean s) ≡ lean (found_in_rest whole levels rest s)
+  lean_rest levels Closed s = refl
+  lean_rest levels Open s = refl
+  lean_rest levels (Typed is) s = lean_walked levels None is s
 
   pub lean_declared : (levels : ScopeLevels) (list : ℕ) (seen : List Name) (declarations : Declarations) (s : State ScopeLevels)
       → found_in_declared innermost levels list seen declarations (lean s) ≡ lean

@@ -4,7 +4,7 @@ use Rattle.cd_syntax.specs.TypeTree.{Tree, tree, Kind, Tuple, Arrows, Union, Mee
 use Rattle.cd_syntax.specs.TypeTree.{NoTree, ATree, Signs, NoSign, ASign, Fields, NoField, AField, Declarations}
 use Rattle.cd_syntax.specs.TypeTree.{NoDeclaration, ADeclaration, Regular, regular, RegularKind, Nothing, Item, Seq}
 use Rattle.cd_syntax.specs.TypeTree.{Alt, Repeat, Capture, Regulars, NoRegular, ARegular, trees_of, signs_of, fields_of}
-use Rattle.cd_syntax.specs.TypeTree.{declarations_of, regulars_of}
+use Rattle.cd_syntax.specs.TypeTree.{declarations_of, regulars_of, Rest, Closed, Open, Typed}
 use Rattle.cd_syntax.specs.PlainTree.{plain, plain_signed, plain_field, plain_declaration, plain_regular}
 use Rattle.cd_syntax.specs.declared.type_tree.Tree.{Tree as CodeTree}
 use Rattle.cd_syntax.specs.declared.type_tree.SignedTree.{SignedTree as CodeSigned}
@@ -22,7 +22,7 @@ abbrev mutual
   size_kind (Union trees) = suc (suc (size_trees trees))
   size_kind (Meet first signs) = suc (suc (suc (size first + size_signs signs)))
   size_kind (Sequence is) = suc (suc (size_regular is))
-  size_kind (Record fields more) = suc (suc (size_fields fields))
+  size_kind (Record fields rest) = suc (suc (size_fields fields + size_rest rest))
   size_kind (Xml tag attributes content) =
       suc (suc (suc (size tag + size attributes + size content)))
   size_kind (Where is declarations) = suc (suc (suc (size is + size_declarations declarations)))
@@ -39,6 +39,11 @@ abbrev mutual
   pub size_fields : Fields → ℕ
   size_fields NoField = zero
   size_fields (AField label at optional is rest) = suc (suc (size is + size_fields rest))
+
+  pub size_rest : Rest → ℕ
+  size_rest Closed = zero
+  size_rest Open = zero
+  size_rest (Typed is) = suc (size is)
 
   pub size_declarations : Declarations → ℕ
   size_declarations NoDeclaration = zero

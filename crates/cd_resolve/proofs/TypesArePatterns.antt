@@ -3,13 +3,13 @@ use Rattle.cd_syntax.specs.TypeTree as type
 use Rattle.cd_syntax.specs.TypeTree.{Tree, tree, Kind, Trees, NoTree, ATree, Signs, NoSign, ASign}
 use Rattle.cd_syntax.specs.TypeTree.{Fields, NoField, AField, Declarations, NoDeclaration}
 use Rattle.cd_syntax.specs.TypeTree.{ADeclaration, Regular, regular, RegularKind, Regulars}
-use Rattle.cd_syntax.specs.TypeTree.{NoRegular, ARegular}
+use Rattle.cd_syntax.specs.TypeTree.{NoRegular, ARegular, Rest, Closed, Open, Typed}
 use Rattle.cd_syntax.specs.WellMade.{IsWellMade, IsWellMadeKind, AreWellMade, AreWellMadeSigns}
-use Rattle.cd_syntax.specs.WellMade.{AreWellMadeFields, AreWellMadeDeclarations}
+use Rattle.cd_syntax.specs.WellMade.{AreWellMadeFields, IsWellMadeRest, AreWellMadeDeclarations}
 use Rattle.cd_syntax.specs.WellMade.{IsWellMadeRegular, IsWellMadeRegularKind, AreWellMadeRegulars}
 use Rattle.cd_syntax.specs.WellMadePattern.{IsWellMadePattern, IsWellMadePatternKind}
 use Rattle.cd_syntax.specs.WellMadePattern.{AreWellMadePatterns, AreWellMadePatternSigns}
-use Rattle.cd_syntax.specs.WellMadePattern.{AreWellMadePatternFields}
+use Rattle.cd_syntax.specs.WellMadePattern.{AreWellMadePatternFields, IsWellMadePatternRest}
 use Rattle.cd_syntax.specs.WellMadePattern.{AreWellMadePatternDeclarations}
 use Rattle.cd_syntax.specs.WellMadePattern.{IsWellMadePatternRegular}
 use Rattle.cd_syntax.specs.WellMadePattern.{IsWellMadePatternRegularKind}
@@ -31,7 +31,8 @@ mutual
   kind_is_pattern (type.Meet first signs) well =
       (type_is_pattern first well.0, signs_are_patterns signs well.1)
   kind_is_pattern (type.Sequence is) well = regular_is_pattern is well
-  kind_is_pattern (type.Record fields more) well = fields_are_patterns fields well
+  kind_is_pattern (type.Record fields rest) well =
+      (fields_are_patterns fields well.0, rest_is_pattern rest well.1)
   kind_is_pattern (type.Xml tag attributes content) well =
       (type_is_pattern tag well.0, type_is_pattern attributes well.1, type_is_pattern content well.2)
   kind_is_pattern (type.Named name) well = tt
@@ -55,6 +56,11 @@ mutual
   fields_are_patterns NoField well = tt
   fields_are_patterns (AField label at optional is rest) well =
       (well.0, type_is_pattern is well.1, fields_are_patterns rest well.2)
+
+  rest_is_pattern : (rest : Rest) → IsWellMadeRest rest → IsWellMadePatternRest rest
+  rest_is_pattern Closed well = tt
+  rest_is_pattern Open well = tt
+  rest_is_pattern (Typed is) well = type_is_pattern is well
 
   pub declarations_are_patterns : (declarations : Declarations)
       → AreWellMadeDeclarations declarations → AreWellMadePatternDeclarations declarations

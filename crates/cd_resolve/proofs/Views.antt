@@ -4,7 +4,7 @@ use Rattle.std.proofs.lemmas.List.{at_drop_more}
 use Rattle.cd_syntax.specs.PlainTree.{plain, plain_signed, plain_field, plain_declaration}
 use Rattle.cd_syntax.specs.PlainTree.{tree_layer, kind_layer, trees_layer, signs_layer, signed_layer, fields_layer}
 use Rattle.cd_syntax.specs.PlainTree.{field_layer, declarations_layer, declaration_layer}
-use Rattle.cd_syntax.specs.PlainTree.{regular_layer, regular_kind_layer, regulars_layer}
+use Rattle.cd_syntax.specs.PlainTree.{regular_layer, regular_kind_layer, regulars_layer, rest_layer}
 use Rattle.cd_syntax.specs.declared.type_tree.SignedTree.{SignedTree as CodeSigned, fold_out-SignedTree}
 use Rattle.cd_syntax.specs.declared.type_tree.FieldTree.{FieldTree as CodeField, fold_out-FieldTree}
 use Rattle.cd_syntax.specs.declared.type_tree.Declaration.{Declaration as CodeDeclaration, fold_out-Declaration}
@@ -12,8 +12,8 @@ use Rattle.cd_syntax.specs.declared.type_tree.RegKind.TheViews.{out-SignedTree, 
 
 pub signed_is : (one : CodeSigned) → plain_signed one ≡ record
     { kept = (out-SignedTree one).kept; tree = plain (out-SignedTree one).tree }
-signed_is = fold_out-SignedTree _ _ _ _ _ _ _ _ _ _ _ _
-    regular_kind_layer kind_layer declaration_layer declarations_layer field_layer fields_layer
+signed_is = fold_out-SignedTree _ _ _ _ _ _ _ _ _ _ _ _ _
+    regular_kind_layer rest_layer kind_layer declaration_layer declarations_layer field_layer fields_layer
     regular_layer regulars_layer signs_layer signed_layer tree_layer trees_layer
 
 pub field_is : (one : CodeField) → plain_field one ≡ record {
@@ -22,14 +22,14 @@ pub field_is : (one : CodeField) → plain_field one ≡ record {
   optional = (out-FieldTree one).optional;
   tree = plain (out-FieldTree one).tree;
 }
-field_is = fold_out-FieldTree _ _ _ _ _ _ _ _ _ _ _ _
-    regular_kind_layer kind_layer declaration_layer declarations_layer field_layer fields_layer
+field_is = fold_out-FieldTree _ _ _ _ _ _ _ _ _ _ _ _ _
+    regular_kind_layer rest_layer kind_layer declaration_layer declarations_layer field_layer fields_layer
     regular_layer regulars_layer signs_layer signed_layer tree_layer trees_layer
 
 pub declaration_is : (one : CodeDeclaration) → plain_declaration one ≡ record
     { name = (out-Declaration one).name; at = (out-Declaration one).at; tree = plain (out-Declaration one).tree }
-declaration_is = fold_out-Declaration _ _ _ _ _ _ _ _ _ _ _ _
-    regular_kind_layer kind_layer declaration_layer declarations_layer field_layer fields_layer
+declaration_is = fold_out-Declaration _ _ _ _ _ _ _ _ _ _ _ _ _
+    regular_kind_layer rest_layer kind_layer declaration_layer declarations_layer field_layer fields_layer
     regular_layer regulars_layer signs_layer signed_layer tree_layer trees_layer
 
 -- a function of what is left of a list, where the next item is known

@@ -14,7 +14,8 @@ use Rattle.cd_resolve.specs.Inner.Finding.{found_in_regular, found_in_regulars}
 use Rattle.cd_resolve.proofs.GrowingLists.{get_next}
 use Rattle.cd_resolve.proofs.Rich.{whole}
 use Rattle.cd_resolve.proofs.FoundGrows.{Grows, then, entered_grows, labelled_grows, walked_grows, trees_grow}
-use Rattle.cd_resolve.proofs.FoundGrows.{signs_grow, fields_grow, declared_grows, regular_grows, regulars_grow}
+use Rattle.cd_resolve.proofs.FoundGrows.{signs_grow, fields_grow, rest_grows, declared_grows, regular_grows}
+use Rattle.cd_resolve.proofs.FoundGrows.{regulars_grow}
 use Rattle.cd_resolve.proofs.WhatNamesMean.{scope_of, Fits, fits_on}
 
 -- the tree is walked over before this is found, from some state that has so many lists at least
@@ -218,13 +219,25 @@ visits_part least start levels _ _ _ _ t same_scope (fault.in_sequence scope is 
   scope = same_scope;
   visited = visits_item least levels is all kind.before t one kind.fits kind.late kind.grows;
 }
-visits_part least start levels _ _ _ _ t same_scope (fault.in_record scope label at is fields others one) kind =
+visits_part least start levels _ _ _ _ t same_scope (fault.in_record scope label at is fields rest one) kind =
+    let labels = labelled [] fields kind.before in
     let more = labelled_grows [] fields kind.before in record {
       levels = levels;
       start = None;
       scope = same_scope;
-      visited = visits_fields least levels label at is fields (labelled [] fields kind.before) t one
-          (fits_on _ _ levels more kind.fits) (later_late least _ _ more kind.late) kind.grows;
+      visited = visits_fields least levels label at is fields labels t one
+          (fits_on _ _ levels more kind.fits) (later_late least _ _ more kind.late)
+          (then _ _ t (rest_grows levels rest (found_in_fields whole levels fields labels)) kind.grows);
+    }
+visits_part least start levels _ _ _ _ t same_scope (fault.in_rest scope fields is) kind =
+    let labels = labelled [] fields kind.before in
+    let all = found_in_fields whole levels fields labels in
+    let more = then _ _ _ (labelled_grows [] fields kind.before) (fields_grow levels fields labels) in record {
+      levels = levels;
+      start = None;
+      scope = same_scope;
+      visited = visits_tree least None levels is all t (fits_on _ _ levels more kind.fits)
+          (later_late least _ _ more kind.late) kind.grows;
     }
 visits_part least start levels _ _ _ _ t same_scope (fault.in_tag scope tag attributes content) kind =
     let one = found_in whole levels None tag kind.before in

@@ -7,9 +7,7 @@ use Rattle.cd_syntax.specs.Name.{Name}
 use Rattle.cd_syntax.specs.TypeTree as type
 use Rattle.cd_syntax.specs.TypeTree.{Tree, tree, Kind, Trees, NoTree, ATree, Signs, NoSign, ASign, Fields, NoField}
 use Rattle.cd_syntax.specs.TypeTree.{AField, Declarations, NoDeclaration, ADeclaration}
-use Rattle.cd_model.specs.BuiltIns.{node_named}
 use Rattle.cd_model.specs.Formula.{Formula, Field, Xml, Record}
-use Rattle.cd_model.specs.Written.{any_or_none}
 use Rattle.cd_regex.specs.Regular.{Regular, regulars_of}
 use Rattle.cd_regex.specs.Automaton.{sequence_formulas}
 use Rattle.cd_resolve.specs.Inner.Names.{AreBelow}
@@ -18,15 +16,15 @@ use Rattle.cd_resolve.specs.Inner.ScopeLevels.{ScopeLevels, number_in}
 use Rattle.cd_resolve.specs.Inner.Leaves.{Pairs, Arrows, sorted}
 use Rattle.cd_resolve.specs.Inner.Members.{Sign, union_of, meet_of}
 use Rattle.cd_resolve.specs.Inner.Equates.{HasMeet, Equates, EquatesKind, EquatesRegular, EquatesRegularKind}
-use Rattle.cd_resolve.specs.Inner.Equates.{AreEquated}
+use Rattle.cd_resolve.specs.Inner.Equates.{EquatesRest, AreEquated}
 use Rattle.cd_resolve.specs.Inner.Walk.{entered, settled, met, one_more, level_after, walked, walked_kind, walked_trees}
 use Rattle.cd_resolve.specs.Inner.Walk.{walked_signs, walked_fields, walked_regular, walked_regular_kind}
-use Rattle.cd_resolve.specs.Inner.Walk.{walked_regulars, walked_declared, walked_list}
+use Rattle.cd_resolve.specs.Inner.Walk.{walked_regulars, walked_rest, walked_declared, walked_list}
 use Rattle.cd_resolve.proofs.Growing.{Grows, grows_then, appends_grows, appends_longer, AreUnread, unread_later}
 use Rattle.cd_resolve.proofs.Growing.{entered_length, entered_unread, settled_is, settled_grows, settled_unread}
 use Rattle.cd_resolve.proofs.Growing.{settled_length, pushed_appends, chained_appends, united_appends, met_appends}
 use Rattle.cd_resolve.proofs.Growing.{walked_appends, trees_append, signs_append, fields_append, regular_appends}
-use Rattle.cd_resolve.proofs.Growing.{regulars_append, declared_grows, list_longer}
+use Rattle.cd_resolve.proofs.Growing.{rest_appends, regulars_append, declared_grows, list_longer}
 use Rattle.cd_resolve.proofs.NodesBelow.{AreBefore, before_later, before_inside, regular_below}
 use Rattle.cd_resolve.proofs.MadeEquations.{pushed_at, leaf_at, text_at, united_at, met_at, sequenced_at, chained_at}
 use Rattle.cd_resolve.proofs.MadeEquations.{TreesAt, SignsAt, FieldsAt, RegularsAt, all_trees, all_fields, all_regulars}
@@ -99,13 +97,19 @@ module _ (first : ℕ) (names : List (Name × NodeId)) (enough : 14 ≤ first) (
           regular_equates levels is s final before on,
           regular_below first names enough named levels is s before,
         )
-    kind_equates levels (type.Record fields more) s final before grows =
+    kind_equates levels (type.Record fields rest) s final before grows =
         let all = walked_fields first names levels fields [] s in
-        let equation : Equation = Is (Record (sorted all.0) (node_named (any_or_none more))) in
-        let on = grows_then all.1 _ final (appends_grows all.1 _ (pushed_appends first equation all.1)) grows in (
+        let other = walked_rest first names levels rest all.1 in
+        let equation : Equation = Is (Record (sorted all.0) other.0) in
+        let later = grows_then other.1 _ final (appends_grows other.1 _ (pushed_appends first equation other.1)) grows in
+        let on = grows_then all.1 other.1 final
+        (appends_grows all.1 other.1 (rest_appends first names levels rest all.1)) later in
+        let longer = appends_longer s all.1 (fields_append first names levels fields [] s) in (
           all.0,
-          pushed_at first final equation all.1 grows,
+          other.0,
+          pushed_at first final equation other.1 grows,
           all_fields first final names levels fields all.0 (fields_equate levels fields [] s final before on),
+          rest_equates levels rest all.1 final (before_later first s all.1 levels longer before) later,
         )
     kind_equates levels (type.Xml tag attributes content) s final before grows =
         let one = walked first names levels tag s in
@@ -204,6 +208,13 @@ module _ (first : ℕ) (names : List (Name × NodeId)) (enough : 14 ≤ first) (
           are = later.are ∙ append_assoc made (next ∷ []) later.named;
           each = (refl, refl, walked_equates levels is s final before on, later.each);
         }
+
+    rest_equates : (levels : ScopeLevels) (rest : type.Rest) (s final : Equations) → AreBefore first s levels
+        → Grows (walked_rest first names levels rest s).1 final
+        → EquatesRest first final names levels rest (walked_rest first names levels rest s).0
+    rest_equates levels type.Closed s final before grows = refl
+    rest_equates levels type.Open s final before grows = refl
+    rest_equates levels (type.Typed is) s final before grows = walked_equates levels is s final before grows
 
     regular_equates : (levels : ScopeLevels) (is : type.Regular) (s final : Equations) → AreBefore first s levels
         → Grows (walked_regular first names levels is s).1 final

@@ -6,11 +6,11 @@ use Rattle.cd_syntax.specs.TypeTree as type
 use Rattle.cd_syntax.specs.TypeTree.{Tree, tree, Kind, Trees, NoTree, ATree, Signs, NoSign, ASign, Fields, NoField}
 use Rattle.cd_syntax.specs.TypeTree.{AField, Declarations, NoDeclaration, ADeclaration}
 use Rattle.cd_model.specs.AllOf.{AllOf}
-use Rattle.cd_model.specs.BuiltIns.{node_named}
 use Rattle.cd_model.specs.Formula.{Formula, Field, Xml, Record}
 use Rattle.cd_model.specs.Scope.{Scope, Declared, names_in, names_in_trees, names_in_signs, names_in_fields}
-use Rattle.cd_model.specs.Scope.{names_declared, names_in_regular, names_in_regular_kind, names_in_regulars, names_over}
-use Rattle.cd_model.specs.Written.{kind_of, any_or_none}
+use Rattle.cd_model.specs.Scope.{names_declared, names_in_rest, names_in_regular, names_in_regular_kind}
+use Rattle.cd_model.specs.Scope.{names_in_regulars, names_over}
+use Rattle.cd_model.specs.Written.{kind_of}
 use Rattle.cd_model.proofs.Covered.{Covered, each_parts, each_both, covered_tree}
 use Rattle.cd_model.proofs.CoveredParts.{covered_xml}
 use Rattle.cd_regex.specs.Regular.{Regular}
@@ -23,13 +23,13 @@ use Rattle.cd_resolve.specs.Inner.Members.{Sign, union_of, meet_of}
 use Rattle.cd_resolve.specs.Inner.Equates.{AllEquated}
 use Rattle.cd_resolve.specs.Inner.Walk.{entered, settled, united, met, one_more, level_after, walked, walked_kind}
 use Rattle.cd_resolve.specs.Inner.Walk.{walked_trees, walked_signs, walked_fields, walked_regular, walked_regular_kind}
-use Rattle.cd_resolve.specs.Inner.Walk.{walked_regulars, walked_declared, walked_list}
+use Rattle.cd_resolve.specs.Inner.Walk.{walked_regulars, walked_rest, walked_declared, walked_list}
 use Rattle.cd_resolve.proofs.Origins.{HasOrigin}
 use Rattle.cd_resolve.proofs.Growing.{Grows, grows_then, appends_grows, appends_longer, AreUnread, unread_later}
 use Rattle.cd_resolve.proofs.Growing.{entered_length, entered_unread, settled_grows, settled_unread, settled_length}
 use Rattle.cd_resolve.proofs.Growing.{pushed_appends, chained_appends, united_appends, met_appends, walked_appends}
 use Rattle.cd_resolve.proofs.Growing.{trees_append, signs_append, fields_append, regular_appends, regulars_append}
-use Rattle.cd_resolve.proofs.Growing.{declared_grows, list_longer}
+use Rattle.cd_resolve.proofs.Growing.{rest_appends, declared_grows, list_longer}
 use Rattle.cd_resolve.proofs.NodesBelow.{AreBefore, before_later, before_inside}
 use Rattle.cd_resolve.proofs.WalkedEquations.{kind_equates, list_equates}
 use Rattle.cd_resolve.proofs.MadeOrigins.{pushed_have, leaf_have, text_have, chained_have, united_have, met_have}
@@ -119,12 +119,20 @@ module _ (first : ℕ) (names : List (Name × NodeId)) (base : Scope) (Fact : De
         let on = grows_then one.1 _ final (appends_grows one.1 _ (record { more = states; are = refl })) grows in
         states_have first names base Fact final formulas one.1 grows
         (regular_have levels is s before on all covered.within covered.over have)
-    kind_have levels (type.Record fields more) s before grows all covered have =
+    kind_have levels (type.Record fields rest) s before grows all covered have =
+        let scope = scope_of base levels in
         let read = walked_fields first names levels fields [] s in
-        let formula : Formula = Record (sorted read.0) (node_named (any_or_none more)) in
-        let on = grows_then read.1 _ final (appends_grows read.1 _ (pushed_appends first (Is formula) read.1)) grows in
-        pushed_have first names base Fact final formula read.1 grows
-        (fields_have levels fields [] s before on all covered.within covered.over have)
+        let other = walked_rest first names levels rest read.1 in
+        let formula : Formula = Record (sorted read.0) other.0 in
+        let later = grows_then other.1 _ final
+        (appends_grows other.1 _ (pushed_appends first (Is formula) other.1)) grows in
+        let on = grows_then read.1 other.1 final
+        (appends_grows read.1 other.1 (rest_appends first names levels rest read.1)) later in
+        let longer = appends_longer s read.1 (fields_append first names levels fields [] s) in
+        let parts = each_parts Fact (names_in_fields scope fields) (names_in_rest scope rest) covered.within in
+        pushed_have first names base Fact final formula other.1 grows
+        (rest_have levels rest read.1 (before_later first s read.1 levels longer before) later all parts.1 covered.over
+        (fields_have levels fields [] s before on all parts.0 covered.over have))
     kind_have levels (type.Xml tag attributes content) s before grows all covered have =
         let one = walked first names levels tag s in
         let two = walked first names levels attributes one.1 in
@@ -212,6 +220,15 @@ module _ (first : ℕ) (names : List (Name × NodeId)) (base : Scope) (Fact : De
         let parts = each_parts Fact (names_in scope is) (names_in_fields scope rest) within in
         fields_have levels rest (one_more made next) one.1 (before_later first s one.1 levels longer before) grows all
         parts.1 over (tree_have levels is s before on all (covered_tree Fact scope is parts.0 over) have)
+
+    rest_have : (levels : ScopeLevels) (rest : type.Rest) (s : Equations) → AreBefore first s levels
+        → Grows (walked_rest first names levels rest s).1 final → AllEquated first final names levels
+        → AllOf Fact (names_in_rest (scope_of base levels) rest) → AllOf Fact (names_over (scope_of base levels))
+        → HaveOrigins s → HaveOrigins (walked_rest first names levels rest s).1
+    rest_have levels type.Closed s before grows all within over have = have
+    rest_have levels type.Open s before grows all within over have = have
+    rest_have levels (type.Typed is) s before grows all within over have =
+        tree_have levels is s before grows all (covered_tree Fact (scope_of base levels) is within over) have
 
     regular_have : (levels : ScopeLevels) (is : type.Regular) (s : Equations) → AreBefore first s levels
         → Grows (walked_regular first names levels is s).1 final → AllEquated first final names levels

@@ -6,6 +6,7 @@ use Rattle.cd_syntax.specs.TypeTree.{Tree, tree, Kind, Tuple, Arrows, Union, Mee
 use Rattle.cd_syntax.specs.TypeTree.{Xml, Named, Where, Trees, Signs, Fields, AField, Declarations}
 use Rattle.cd_syntax.specs.TypeTree.{ADeclaration, Regular, regular, Item, Seq, Alt, Repeat}
 use Rattle.cd_syntax.specs.TypeTree.{Capture, Regulars, ARegular}
+use Rattle.cd_syntax.specs.TypeTree.{Rest, Typed}
 use Rattle.cd_syntax.specs.declared.tokens.Span.{Span}
 use Rattle.cd_resolve.specs.declared.fault.NameFault.{NameFault}
 use Rattle.cd_resolve.specs.declared.fault.NameFault.TheVariants.{Unknown, Twice, Unguarded}
@@ -61,9 +62,11 @@ pub data IsPart : Scope → Kind → Scope → Tree → Type 0 where
       → IsPart scope (Meet first signs) scope is
   in_sequence : (scope : Scope) (is : Tree) (all : Regular) → IsItem is all
       → IsPart scope (Sequence all) scope is
-  in_record : (scope : Scope) (label : Name) (at : ℕ) (is : Tree) (fields : Fields) (more : Bool)
+  in_record : (scope : Scope) (label : Name) (at : ℕ) (is : Tree) (fields : Fields) (rest : Rest)
       → IsField label at is fields
-      → IsPart scope (Record fields more) scope is
+      → IsPart scope (Record fields rest) scope is
+  in_rest : (scope : Scope) (fields : Fields) (is : Tree)
+      → IsPart scope (Record fields (Typed is)) scope is
   in_tag : (scope : Scope) (tag attributes content : Tree)
       → IsPart scope (Xml tag attributes content) scope tag
   in_attributes : (scope : Scope) (tag attributes content : Tree)
@@ -113,9 +116,9 @@ mutual
     unknown : (outer scope : Scope) (span : Span) (name : Name) → declared_as scope name ≡ None
         → IsFault outer scope (tree span (Named name))
         (record { fault = Unknown; name = name; at = span.from })
-    label_twice : (outer scope : Scope) (span : Span) (fields : Fields) (more : Bool) (label : Name)
+    label_twice : (outer scope : Scope) (span : Span) (fields : Fields) (rest : Rest) (label : Name)
         (at : ℕ) → LabelAgain label at fields
-        → IsFault outer scope (tree span (Record fields more))
+        → IsFault outer scope (tree span (Record fields rest))
         (record { fault = Twice; name = label; at = at })
     in_part : (outer scope inner : Scope) (span : Span) (kind : Kind) (part : Tree) (fault : Fault)
         → IsPart scope kind inner part

@@ -3,6 +3,7 @@ pub mod Keys
 pub mod NamesDeclared
 pub mod BuiltinNames
 pub mod Finding
+pub mod FreeFields
 pub mod Cycles
 pub mod PlainFound
 pub mod Ranks

@@ -1,16 +1,22 @@
 -- Types that are wanted, and lists that go together.
-use Rattle.std.specs.Prelude.{List, [], ◌∷◌, if◌then◌else◌}
-use Rattle.cd_syntax.specs.PlainTree.{plain}
+use Rattle.std.specs.Prelude.{List, [], ◌∷◌}
+use Rattle.cd_syntax.specs.PlainTree.{plain, plain_fields}
 use Rattle.cd_syntax.specs.TypeTree.{Tree}
 use Rattle.cd_model.specs.Scope.{Scope}
 use Rattle.cd_model.specs.Written.{Written}
-use Rattle.cd_matching.specs.WrittenPattern.{outside}
+use Rattle.cd_matching.specs.WrittenPattern.{outside, others_in}
+use Rattle.cd_resolve.specs.declared.wanted.Want.{Want}
+use Rattle.cd_resolve.specs.declared.wanted.Want.TheVariants as want
 use Rattle.cd_resolve.specs.declared.wanted.WantedType.{WantedType}
 
--- the tree, or what is outside it
+-- the tree, what is outside it, or the records whose other fields are in it
+abbrev pub tree_wanted : Want → Tree → Tree
+tree_wanted want.Itself is = is
+tree_wanted want.Outside is = outside is
+tree_wanted (want.Others fields) is = others_in (plain_fields fields.now) is
+
 abbrev pub wanted_tree : WantedType → Tree
-wanted_tree wanted =
-    if wanted.outside then outside (plain wanted.tree.now) else plain wanted.tree.now
+wanted_tree wanted = tree_wanted wanted.what (plain wanted.tree.now)
 
 abbrev pub wanted_type : Scope → WantedType → Written
 wanted_type scope wanted = record { scope = scope; tree = wanted_tree wanted }

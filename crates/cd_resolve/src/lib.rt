@@ -42,4 +42,4 @@ pub use check::{check_declarations, check_tree, names_of};
 pub use name_index::NameIndex;
 pub use names::Names;
 pub use types::{Batch, TypeBatch, resolve, resolve_type, resolve_type_from};
-pub use wanted::{TypesBatch, WantedType, resolve_types};
+pub use wanted::{TypesBatch, Want, WantedType, resolve_types};

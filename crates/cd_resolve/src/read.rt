@@ -1,10 +1,11 @@
 //! What is written, read by one walk: its equations, or the least of its faults.
 ghost use Rattle.std.specs.Prelude.{◌≡◌, IfOk, OnOk, IfErr, map, None, Some, [], ◌∷◌};
-ghost use Rattle.cd_syntax.specs.PlainTree.{plain, plain_declarations};
+ghost use Rattle.cd_syntax.specs.PlainTree.{plain, plain_declarations, plain_fields};
 ghost use Rattle.cd_syntax.specs.TypeTree.{trees_of};
 ghost use Rattle.cd_syntax.specs.WellMade.{AreWellMadeDeclarations};
 ghost use Rattle.cd_syntax.specs.WellMadePattern.{IsWellMadePattern};
 ghost use Rattle.cd_model.specs.AllOf.{AllOf};
+ghost use Rattle.cd_graph.specs.PlainFormula.{plain_named};
 ghost use Rattle.cd_resolve.specs.Errors.{IsReportedError};
 ghost use Rattle.cd_resolve.specs.Faults.{Fault, IsFaultOfType, IsFaultOfDeclarations};
 ghost use Rattle.cd_resolve.specs.Named.{plain_names, declared_by};
@@ -12,6 +13,7 @@ ghost use Rattle.cd_resolve.specs.Wanted.{wanted_tree};
 ghost use Rattle.cd_resolve.specs.Inner.Check.{found_in_type, all_faults};
 ghost use Rattle.cd_resolve.specs.Least.{least_from, IsLeast};
 ghost use Rattle.cd_resolve.specs.Inner.Equation.{plain_equations};
+ghost use Rattle.cd_resolve.specs.Inner.FreeFields.{free_named};
 ghost use Rattle.cd_resolve.specs.Inner.Names.{numbered};
 ghost use Rattle.cd_resolve.specs.Inner.PlainBase.{names_outside, lists_outside};
 ghost use Rattle.cd_resolve.specs.PlainReported.{plain_reported};
@@ -29,10 +31,12 @@ use crate::names::Names;
 use crate::reported::Reported;
 use crate::state::State;
 use crate::walk::walk;
-use crate::wanted::WantedType;
+use crate::wanted::{Want, WantedType};
 use cd_graph::built_in::ANY;
+use cd_graph::fields::Field;
 use cd_sets::node_id::NodeId;
-use cd_syntax::type_tree::{Declarations, Tree};
+use cd_syntax::name::Name;
+use cd_syntax::type_tree::{Declarations, FieldTrees, Tree};
 use std::alloc::{AllocError, Global};
 
 /// The equations of type declarations, which see one another and none else, from the node of this
@@ -149,7 +153,8 @@ fn walk_types<'t>(
     Ok(roots)
 }
 
-// The node of a type, or of what is outside it: this is everything but the type.
+// The node of what is wanted of a tree: its type, all but this, or the records whose other fields
+// are of it.
 fn walk_wanted<'t>(
     base: &Base<'_, '_>,
     wanted: WantedType<'t>,
@@ -161,12 +166,36 @@ fn walk_wanted<'t>(
         ≡ walked base.now.first (names_outside base.now) [] (wanted_tree wanted.entry)
         (plain_equations state.old.equations.items)) }
 {
-    let id = walk(base, wanted.tree, &[], None, state, found)?;
-    if wanted.outside {
-        state.meet(base, &[(true, ANY), (false, id)])
-    } else {
-        Ok(id)
+    match wanted.what {
+        Want::Itself => walk(base, wanted.tree, &[], None, state, found),
+        Want::Outside => {
+            let id = walk(base, wanted.tree, &[], None, state, found)?;
+            state.meet(base, &[(true, ANY), (false, id)])
+        }
+        Want::Others(fields) => {
+            let named = free_fields(base.alloc, fields)?;
+            let id = walk(base, wanted.tree, &[], None, state, found)?;
+            state.record(base, named, id)
+        }
     }
+}
+
+// The labels of fields, at each of which there may be nothing or anything.
+fn free_fields(alloc: Global, fields: &FieldTrees) -> Result<Vec<(Name, Field)>, AllocError>
+    ensures { IfOk result (λ made. plain_named made.items ≡ free_named (plain_fields fields.now)) }
+{
+    let mut made = Vec::new(alloc);
+    for field in fields.items() {
+        let optional = true;
+        made.push((
+            field.label.copy()?,
+            Field {
+                optional,
+                node: ANY,
+            },
+        ))?;
+    }
+    Ok(made)
 }
 
 // Walks over a type that sees this list of declarations beside those of its own `where`.

@@ -19,11 +19,10 @@ use crate::leaves::characters;
 use crate::members::{meet_of, union_of};
 use crate::sort::sort;
 use cd_graph::Formula;
-use cd_graph::built_in::{ANY, EMPTY, NIL, node_of};
+use cd_graph::built_in::{ANY, EMPTY, NIL};
 use cd_graph::fields::{Field, FieldList, Fields};
 use cd_regex::{Reg, sequence_nodes};
 use cd_sets::node_id::NodeId;
-use cd_syntax::builtin::BuiltinName;
 use cd_syntax::name::Name;
 use cd_syntax::type_tree::Declarations;
 use std::alloc::{AllocError, Global};
@@ -189,24 +188,18 @@ impl State {
         self.push(base, Equation::Is(Formula::pair(first, rest)))
     }
 
-    /// A record type with these fields.
+    /// A record type with these fields, at whose other labels there may be something of a node.
     pub(crate) fn record(
         &mut self,
         base: &Base<'_, '_>,
         fields: Vec<(Name, Field)>,
-        more: bool,
+        rest: NodeId,
     ) -> Result<NodeId, AllocError>
         requires { HaveLabels (plain_named fields.items) }
         ensures { IfOk result (λ id. (id, plain_equations self.new.equations.items)
-            ≡ recorded base.now.first more
-            (plain_named fields.items, plain_equations self.old.equations.items)) }
+            ≡ recorded base.now.first (plain_named fields.items)
+            (rest, plain_equations self.old.equations.items)) }
     {
-        let rest = if more {
-            BuiltinName::Any
-        } else {
-            BuiltinName::Empty
-        };
-        let rest = node_of(rest);
         let named = FieldList::of(sort(base.alloc, fields)?)?;
         self.push(base, Equation::Is(Formula::record(Fields { named, rest })))
     }

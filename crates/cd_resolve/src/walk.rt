@@ -84,7 +84,7 @@ fn walk_kind<'t>(
         TreeKind::Arrows(trees) => walk_chain(base, Joint::Arrows, trees, levels, state, found),
         TreeKind::Union(trees) => walk_union(base, trees, levels, start, state, found),
         TreeKind::Meet(first, signs) => walk_meet(base, first, signs, levels, start, state, found),
-        TreeKind::Record(fields, more) => walk_record(base, fields, *more, levels, state, found),
+        TreeKind::Record(fields, rest) => walk_record(base, fields, rest, levels, state, found),
         TreeKind::Xml(tag, attributes, content) => {
             walk_xml(base, tag, attributes, content, levels, state, found)
         }

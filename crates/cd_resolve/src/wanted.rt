@@ -15,16 +15,28 @@ use crate::read::read_types;
 use crate::solve::solve;
 use cd_graph::{Formulas, Graph};
 use cd_sets::node_id::NodeId;
-use cd_syntax::type_tree::Tree;
+use cd_syntax::type_tree::{FieldTrees, Tree};
 use std::alloc::{AllocError, Global};
 
-/// A type that is wanted, or what is outside it.
+/// A type that is wanted of a tree.
 #[derive(Clone, Copy)]
 pub struct WantedType<'t> {
-    /// The type.
+    /// The tree.
     pub tree: &'t Tree,
-    /// Whether it is what is outside the type that is wanted.
-    pub outside: bool,
+    /// What is wanted of it.
+    pub what: Want<'t>,
+}
+
+/// What is wanted of a tree.
+#[derive(Clone, Copy)]
+pub enum Want<'t> {
+    /// Its type.
+    Itself,
+    /// What is outside its type.
+    Outside,
+    /// The records that have at other labels than those of these fields nothing, or something of
+    /// its type.
+    Others(&'t FieldTrees),
 }
 
 /// Formulas to be put after those of a graph, and the nodes of types.

@@ -4,15 +4,15 @@ use Rattle.cd_syntax.specs.TypeTree.{Tree, tree, Kind, Builtin, Ints, Chars, Ato
 use Rattle.cd_syntax.specs.TypeTree.{Sequence, Record, Xml, Named, Where, Variable, Default, Trees, NoTree, ATree}
 use Rattle.cd_syntax.specs.TypeTree.{Signs, NoSign, ASign, Fields, NoField, AField, Declarations, NoDeclaration}
 use Rattle.cd_syntax.specs.TypeTree.{ADeclaration, Regular, regular, RegularKind, Nothing, Item, Seq, Alt, Repeat}
-use Rattle.cd_syntax.specs.TypeTree.{Capture, Regulars, NoRegular, ARegular}
+use Rattle.cd_syntax.specs.TypeTree.{Capture, Regulars, NoRegular, ARegular, Rest, Closed, Open, Typed}
 use Rattle.cd_resolve.specs.Faults.{Fault}
 use Rattle.cd_variables.specs.Occurrences.{Occurrence, variables, variables_in, variables_of_all, variables_of_signs}
-use Rattle.cd_variables.specs.Occurrences.{variables_of_fields, variables_of_declarations, variables_of_regular}
-use Rattle.cd_variables.specs.Occurrences.{variables_of_regular_kind, variables_of_regulars}
+use Rattle.cd_variables.specs.Occurrences.{variables_of_fields, variables_of_rest, variables_of_declarations}
+use Rattle.cd_variables.specs.Occurrences.{variables_of_regular, variables_of_regular_kind, variables_of_regulars}
 use Rattle.cd_variables.specs.VariableFaults.{misplaced}
 use Rattle.cd_variables.specs.FindingMisplaced.{misplaced_in, misplaced_in_kind, misplaced_in_trees}
-use Rattle.cd_variables.specs.FindingMisplaced.{misplaced_in_signs, misplaced_in_fields, misplaced_in_declarations}
-use Rattle.cd_variables.specs.FindingMisplaced.{misplaced_in_regular, misplaced_in_regular_kind}
+use Rattle.cd_variables.specs.FindingMisplaced.{misplaced_in_signs, misplaced_in_fields, misplaced_in_rest}
+use Rattle.cd_variables.specs.FindingMisplaced.{misplaced_in_declarations, misplaced_in_regular, misplaced_in_regular_kind}
 use Rattle.cd_variables.specs.FindingMisplaced.{misplaced_in_regulars}
 use Rattle.cd_variables.specs.FindingVariables.{reported_of_each}
 
@@ -43,7 +43,8 @@ mutual
       (misplaced_in first) (misplaced_in_signs signs)
       (found_in_tree first) (found_in_signs signs) s
   found_in_kind at (Sequence r) s = found_in_regular r s
-  found_in_kind at (Record fields more) s = found_in_fields fields s
+  found_in_kind at (Record fields rest) s = in_turn (variables_of_fields fields) (variables_of_rest rest)
+      (misplaced_in_fields fields) (misplaced_in_rest rest) (found_in_fields fields) (found_in_rest rest) s
   found_in_kind at (Xml tag attributes content) s =
       in_turn (variables tag ++ variables attributes) (variables content)
       (λ s. misplaced_in attributes (misplaced_in tag s)) (misplaced_in content)
@@ -72,6 +73,12 @@ mutual
   found_in_signs NoSign s = refl
   found_in_signs (ASign kept t rest) s = in_turn (variables t) (variables_of_signs rest)
       (misplaced_in t) (misplaced_in_signs rest) (found_in_tree t) (found_in_signs rest) s
+
+  found_in_rest : (rest : Rest) (s : List Fault)
+      → misplaced_in_rest rest s ≡ reported_of_each misplaced (variables_of_rest rest) s
+  found_in_rest Closed s = refl
+  found_in_rest Open s = refl
+  found_in_rest (Typed t) s = found_in_tree t s
 
   found_in_fields : (fields : Fields) (s : List Fault)
       → misplaced_in_fields fields s ≡ reported_of_each misplaced (variables_of_fields fields) s

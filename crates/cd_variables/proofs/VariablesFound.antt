@@ -8,7 +8,7 @@ use Rattle.cd_syntax.specs.TypeTree.{Tree, tree, Kind, Builtin, Ints, Chars, Ato
 use Rattle.cd_syntax.specs.TypeTree.{Sequence, Record, Xml, Named, Where, Variable, Default, Trees, NoTree, ATree}
 use Rattle.cd_syntax.specs.TypeTree.{Signs, NoSign, ASign, Fields, NoField, AField, Declarations, NoDeclaration}
 use Rattle.cd_syntax.specs.TypeTree.{ADeclaration, Regular, regular, RegularKind, Nothing, Item, Seq, Alt, Repeat}
-use Rattle.cd_syntax.specs.TypeTree.{Capture, Regulars, NoRegular, ARegular}
+use Rattle.cd_syntax.specs.TypeTree.{Capture, Regulars, NoRegular, ARegular, Closed, Open, Typed}
 use Rattle.cd_syntax.specs.declared.tokens.Span.{Span}
 use Rattle.cd_syntax.specs.declared.type_tree.Post.{Post}
 use Rattle.cd_model.specs.AllOf.{AnyOf}
@@ -388,8 +388,13 @@ mutual
       (λ seen. sign_faults seen signs) (adds_tree first) (adds_signs [] signs)
       (adds_signs (names_among (bound first)) signs))
   adds_kind (Sequence r) = adds_own_alone (IsRegularFault r) (regular_faults r) (adds_regular r)
-  adds_kind (Record fields more) = adds_parts_alone (present_trees fields) (optional_trees fields)
+  adds_kind (Record fields Closed) = adds_parts_alone (present_trees fields) (optional_trees fields)
       (field_faults [] fields) (adds_fields [] fields)
+  adds_kind (Record fields Open) = adds_parts_alone (present_trees fields) (optional_trees fields)
+      (field_faults [] fields) (adds_fields [] fields)
+  adds_kind (Record fields (Typed t)) = adds_parts_alone (present_trees fields) (t ∷ optional_trees fields)
+      (kind_faults (Record fields (Typed t)))
+      (adds_side t [] (present_trees fields) (optional_trees fields) (field_faults [] fields) (adds_fields [] fields))
   adds_kind (Xml tag attributes content) = adds_parts_alone (tag ∷ attributes ∷ content ∷ []) []
       (kind_faults (Xml tag attributes content))
       (adds_part tag [] (attributes ∷ content ∷ []) []

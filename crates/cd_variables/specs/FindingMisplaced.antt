@@ -8,6 +8,7 @@ use Rattle.cd_syntax.specs.TypeTree.{NoSign, ASign, Fields, NoField, AField, Dec
 use Rattle.cd_syntax.specs.TypeTree.{NoDeclaration, ADeclaration, Regular, regular, RegularKind}
 use Rattle.cd_syntax.specs.TypeTree.{Nothing, Item, Seq, Alt, Repeat, Capture, Regulars, NoRegular}
 use Rattle.cd_syntax.specs.TypeTree.{ARegular}
+use Rattle.cd_syntax.specs.TypeTree.{Rest, Closed, Open, Typed}
 use Rattle.cd_resolve.specs.Faults.{Fault}
 use Rattle.cd_variables.specs.VariableFaults.{misplaced}
 
@@ -25,7 +26,7 @@ abbrev mutual
   misplaced_in_kind at (Union trees) s = misplaced_in_trees trees s
   misplaced_in_kind at (Meet first signs) s = misplaced_in_signs signs (misplaced_in first s)
   misplaced_in_kind at (Sequence r) s = misplaced_in_regular r s
-  misplaced_in_kind at (Record fields more) s = misplaced_in_fields fields s
+  misplaced_in_kind at (Record fields rest) s = misplaced_in_rest rest (misplaced_in_fields fields s)
   misplaced_in_kind at (Xml tag attributes content) s =
       misplaced_in content (misplaced_in attributes (misplaced_in tag s))
   misplaced_in_kind at (Where body declarations) s =
@@ -46,6 +47,11 @@ abbrev mutual
   misplaced_in_fields NoField s = s
   misplaced_in_fields (AField label at optional t rest) s =
       misplaced_in_fields rest (misplaced_in t s)
+
+  pub misplaced_in_rest : Rest → List Fault → List Fault
+  misplaced_in_rest Closed s = s
+  misplaced_in_rest Open s = s
+  misplaced_in_rest (Typed t) s = misplaced_in t s
 
   pub misplaced_in_declarations : Declarations → List Fault → List Fault
   misplaced_in_declarations NoDeclaration s = s

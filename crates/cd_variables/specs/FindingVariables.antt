@@ -11,7 +11,7 @@ use Rattle.cd_syntax.specs.TypeTree.{Seq, Alt, Repeat, Capture, Regulars, NoRegu
 use Rattle.cd_resolve.specs.Faults.{Fault}
 use Rattle.cd_variables.specs.Occurrences.{Occurrence, takes_away, bound, plain, gathered}
 use Rattle.cd_variables.specs.VariableFaults.{begins, regular_begins, twice, repeats, differs}
-use Rattle.cd_variables.specs.FindingMisplaced.{misplaced_in, misplaced_in_trees}
+use Rattle.cd_variables.specs.FindingMisplaced.{misplaced_in, misplaced_in_trees, misplaced_in_rest}
 use Rattle.cd_variables.specs.FindingMisplaced.{misplaced_in_declarations}
 
 abbrev pub has_name : List Name → Name → Bool
@@ -63,7 +63,7 @@ abbrev mutual
       else sign_faults (names_among (bound first)) signs
       (reported_again [] (bound first) (variable_faults first s))
   kind_faults (Sequence r) s = regular_faults r s
-  kind_faults (Record fields more) s = field_faults [] fields s
+  kind_faults (Record fields rest) s = field_faults [] fields (misplaced_in_rest rest s)
   kind_faults (Xml tag attributes content) s =
       reported_again (names_among (bound tag) ++ names_among (bound attributes)) (bound content)
       (variable_faults content (reported_again (names_among (bound tag)) (bound attributes)

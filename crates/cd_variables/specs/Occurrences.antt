@@ -9,6 +9,7 @@ use Rattle.cd_syntax.specs.TypeTree.{NoSign, ASign, Fields, NoField, AField, Dec
 use Rattle.cd_syntax.specs.TypeTree.{NoDeclaration, ADeclaration, Regular, regular, RegularKind}
 use Rattle.cd_syntax.specs.TypeTree.{Nothing, Item, Seq, Alt, Repeat, Capture, Regulars, NoRegular}
 use Rattle.cd_syntax.specs.TypeTree.{ARegular}
+use Rattle.cd_syntax.specs.TypeTree.{Rest, Closed, Open, Typed}
 
 -- A variable, and its place: where its pattern begins, or its capture
 pub record Occurrence : Type 0 where
@@ -34,7 +35,7 @@ abbrev mutual
   variables_in at (Union trees) = variables_of_all trees
   variables_in at (Meet first signs) = variables first ++ variables_of_signs signs
   variables_in at (Sequence r) = variables_of_regular r
-  variables_in at (Record fields more) = variables_of_fields fields
+  variables_in at (Record fields rest) = variables_of_fields fields ++ variables_of_rest rest
   variables_in at (Xml tag attributes content) =
       variables tag ++ variables attributes ++ variables content
   variables_in at (Where body declarations) =
@@ -54,6 +55,11 @@ abbrev mutual
   pub variables_of_fields : Fields → List Occurrence
   variables_of_fields NoField = []
   variables_of_fields (AField label at optional t rest) = variables t ++ variables_of_fields rest
+
+  pub variables_of_rest : Rest → List Occurrence
+  variables_of_rest Closed = []
+  variables_of_rest Open = []
+  variables_of_rest (Typed t) = variables t
 
   pub variables_of_declarations : Declarations → List Occurrence
   variables_of_declarations NoDeclaration = []
@@ -81,8 +87,8 @@ abbrev pub takes_away : Signs → Bool
 takes_away NoSign = false
 takes_away (ASign kept t rest) = not kept || takes_away rest
 
--- The variables that a tree binds. One under `->`, on a side of `\`, in an optional field or in a
--- `where` binds nothing
+-- The variables that a tree binds. One under `->`, on a side of `\`, in an optional field, in a
+-- rest or in a `where` binds nothing
 abbrev mutual
   pub bound : Tree → List Occurrence
   bound (tree span kind) = bound_in span.from kind
@@ -93,7 +99,7 @@ abbrev mutual
   bound_in at (Meet first signs) =
       (if takes_away signs then [] else bound first) ++ bound_by_signs signs
   bound_in at (Sequence r) = plain r ++ gathered r
-  bound_in at (Record fields more) = bound_by_fields fields
+  bound_in at (Record fields rest) = bound_by_fields fields
   bound_in at (Xml tag attributes content) = bound tag ++ bound attributes ++ bound content
   bound_in at (Variable name) = one name at
   bound_in at (Default name constant) = one name at

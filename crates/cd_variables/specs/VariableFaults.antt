@@ -7,6 +7,7 @@ use Rattle.cd_syntax.specs.TypeTree.{Xml, Where, Trees, NoTree, ATree, Signs, No
 use Rattle.cd_syntax.specs.TypeTree.{NoField, AField, Declarations, NoDeclaration, ADeclaration}
 use Rattle.cd_syntax.specs.TypeTree.{Regular, regular, RegularKind}
 use Rattle.cd_syntax.specs.TypeTree.{Item, Seq, Alt, Repeat, Capture, Regulars, NoRegular, ARegular}
+use Rattle.cd_syntax.specs.TypeTree.{Rest, Closed, Open, Typed}
 use Rattle.cd_syntax.specs.declared.tokens.Span.{Span}
 use Rattle.cd_syntax.specs.declared.type_tree.Post.{Post}
 use Rattle.cd_model.specs.AllOf.{AnyOf}
@@ -88,6 +89,11 @@ optional_trees NoField = []
 optional_trees (AField label at optional t rest) =
     if optional then t ∷ optional_trees rest else optional_trees rest
 
+abbrev pub rest_trees : Rest → List Tree
+rest_trees Closed = []
+rest_trees Open = []
+rest_trees (Typed t) = t ∷ []
+
 abbrev pub declared_trees : Declarations → List Tree
 declared_trees NoDeclaration = []
 declared_trees (ADeclaration name at t rest) = t ∷ declared_trees rest
@@ -97,7 +103,7 @@ abbrev pub binding_parts : Kind → List Tree
 binding_parts (Tuple trees) = all_trees trees
 binding_parts (Meet first signs) =
     (if takes_away signs then [] else first ∷ []) ++ kept_trees signs
-binding_parts (Record fields more) = present_trees fields
+binding_parts (Record fields rest) = present_trees fields
 binding_parts (Xml tag attributes content) = tag ∷ attributes ∷ content ∷ []
 binding_parts kind = []
 
@@ -110,7 +116,7 @@ abbrev pub parts_without : Kind → List Tree
 parts_without (Arrows trees) = all_trees trees
 parts_without (Meet first signs) =
     (if takes_away signs then first ∷ [] else []) ++ side_trees signs
-parts_without (Record fields more) = optional_trees fields
+parts_without (Record fields rest) = rest_trees rest ++ optional_trees fields
 parts_without (Where body declarations) = body ∷ declared_trees declarations
 parts_without kind = []
 

@@ -2,10 +2,10 @@
 ghost use Rattle.std.specs.Prelude.{◌≡◌, IfOk, map};
 ghost use Rattle.cd_syntax.specs.PlainTree.{plain, plain_kind, plain_trees, plain_signs};
 ghost use Rattle.cd_syntax.specs.PlainTree.{plain_fields, plain_declarations, plain_regular};
-ghost use Rattle.cd_syntax.specs.PlainTree.{plain_regular_kind, plain_regulars};
+ghost use Rattle.cd_syntax.specs.PlainTree.{plain_regular_kind, plain_regulars, plain_rest};
 ghost use Rattle.cd_variables.specs.FindingMisplaced.{misplaced_in, misplaced_in_kind};
 ghost use Rattle.cd_variables.specs.FindingMisplaced.{misplaced_in_trees, misplaced_in_signs};
-ghost use Rattle.cd_variables.specs.FindingMisplaced.{misplaced_in_fields};
+ghost use Rattle.cd_variables.specs.FindingMisplaced.{misplaced_in_fields, misplaced_in_rest};
 ghost use Rattle.cd_variables.specs.FindingMisplaced.{misplaced_in_declarations};
 ghost use Rattle.cd_variables.specs.FindingMisplaced.{misplaced_in_regular};
 ghost use Rattle.cd_variables.specs.FindingMisplaced.{misplaced_in_regular_kind};
@@ -16,7 +16,7 @@ use cd_resolve::fault::NameFault;
 use cd_resolve::reported::Reported;
 use cd_syntax::name::Name;
 use cd_syntax::type_tree::{
-    Declarations, FieldTrees, RegKind, RegTree, RegTrees, Signed, Tree, TreeKind, Trees,
+    Declarations, FieldTrees, RegKind, RegTree, RegTrees, Rest, Signed, Tree, TreeKind, Trees,
 };
 use std::alloc::AllocError;
 
@@ -51,7 +51,10 @@ fn report_in_kind<'t>(
             report_in_signs(signs, faults)
         }
         TreeKind::Sequence(expression) => report_in_regular(expression, faults),
-        TreeKind::Record(fields, _) => report_in_fields(fields, faults),
+        TreeKind::Record(fields, rest) => {
+            report_in_fields(fields, faults)?;
+            report_in_rest(rest, faults)
+        }
         TreeKind::Xml(tag, attributes, content) => {
             report_misplaced(tag, faults)?;
             report_misplaced(attributes, faults)?;
@@ -110,6 +113,20 @@ fn report_in_fields<'t>(
         report_misplaced(&field.tree, faults)?;
     }
     Ok(())
+}
+
+#[cycle(misplaced)]
+pub(crate) fn report_in_rest<'t>(
+    rest: &'t Rest,
+    faults: &mut Vec<Reported<'t>>,
+) -> Result<(), AllocError>
+    ensures { IfOk result (λ _. map plain_reported faults.new.items
+        ≡ misplaced_in_rest (plain_rest rest.now) (map plain_reported faults.old.items)) }
+{
+    match rest {
+        Rest::Closed | Rest::Open => Ok(()),
+        Rest::Typed(tree) => report_misplaced(tree, faults),
+    }
 }
 
 #[cycle(misplaced)]

@@ -9,7 +9,7 @@ ghost use Rattle.cd_variables.specs.PlainOccurrences.{plain_occurrence};
 ghost use Rattle.cd_resolve.specs.PlainReported.{plain_reported};
 
 use crate::alternatives::check_union;
-use crate::misplaced::{report_in_declarations, report_in_trees, report_misplaced};
+use crate::misplaced::{report_in_declarations, report_in_rest, report_in_trees, report_misplaced};
 use crate::occurrence::Occurrence;
 use crate::regular::check_regular;
 use crate::row::{check_meet, check_record, check_tuple, check_xml};
@@ -67,7 +67,10 @@ fn check_kind<'t>(
         TreeKind::Union(trees) => check_union(alloc, trees, bound, faults),
         TreeKind::Meet(first, signs) => check_meet(alloc, first, signs, names, bound, faults),
         TreeKind::Sequence(expression) => check_sequence(alloc, expression, bound, faults),
-        TreeKind::Record(fields, _) => check_record(alloc, fields, names, bound, faults),
+        TreeKind::Record(fields, rest) => {
+            report_in_rest(rest, faults)?;
+            check_record(alloc, fields, names, bound, faults)
+        }
         TreeKind::Xml(tag, attributes, content) => {
             check_xml(alloc, tag, attributes, content, names, bound, faults)
         }

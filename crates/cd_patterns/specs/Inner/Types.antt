@@ -1,7 +1,9 @@
 -- The types of a pattern in turn, and the pattern with other types in their places.
-use Rattle.std.specs.Prelude.{Bool, List, [], ◌∷◌, ◌++◌, map}
+use Rattle.std.specs.Prelude.{Bool, true, false, List, [], ◌∷◌, ◌++◌, map}
 use Rattle.cd_sets.specs.declared.node_id.NodeId.{NodeId}
 use Rattle.cd_syntax.specs.Name.{Name}
+use Rattle.cd_syntax.specs.TypeTree as type
+use Rattle.cd_syntax.specs.TypeTree.{Rest, Closed, Open, Typed}
 use Rattle.cd_syntax.specs.declared.type_tree.Post.{Post}
 use Rattle.cd_model.specs.BuiltIns.{EMPTY}
 use Rattle.cd_model.specs.Written.{Written}
@@ -10,6 +12,7 @@ use Rattle.cd_matching.specs.Pattern.{Pattern, Patterns, NoPattern, APattern, Fi
 use Rattle.cd_matching.specs.Pattern.{Present, Optional, Regular, Regulars, NoRegular, ARegular}
 use Rattle.cd_matching.specs.Pattern.{patterns_of, regulars_of}
 use Rattle.cd_matching.specs.PlainPattern.{Field, fields_of}
+use Rattle.cd_matching.specs.WrittenPattern.{in_scope, others_in}
 use Rattle.cd_resolve.specs.Wanted.{wanted_type}
 use Rattle.cd_resolve.specs.declared.wanted.WantedType.{WantedType}
 
@@ -56,6 +59,12 @@ abbrev mutual
   regulars_after NoRegular made = made
   regulars_after (ARegular first rest) made = regulars_after rest (regular_after first made)
 
+-- and after them the records of a typed rest
+abbrev pub rest_after : type.Fields → Rest → List Written → List Written
+rest_after fields Closed made = made
+rest_after fields Open made = made
+rest_after fields (Typed is) made = one_more made (in_scope [] (others_in fields is))
+
 -- the first of some nodes, and the others
 abbrev pub taken : List NodeId → NodeId × List NodeId
 taken [] = (EMPTY, [])
@@ -77,6 +86,19 @@ xml_with tag attributes content = (pattern.Xml tag attributes content.0, content
 
 abbrev pub record_of : Bool → Filled (List Field) → Filled (Pattern NodeId)
 record_of more all = (pattern.Record (fields_of all.0) more, all.1)
+
+-- a record of these fields, with the next of these nodes in the place of a typed rest
+abbrev pub others_beside : List Field → Filled NodeId → Filled (Pattern NodeId)
+others_beside fields one = (
+  pattern.Both (patterns_of (pattern.Record (fields_of fields) true
+      ∷ pattern.OfType one.0 ∷ [])),
+  one.1,
+)
+
+abbrev pub rest_filled : List Field → Rest → List NodeId → Filled (Pattern NodeId)
+rest_filled fields Closed ids = record_of false (fields, ids)
+rest_filled fields Open ids = record_of true (fields, ids)
+rest_filled fields (Typed is) ids = others_beside fields (taken ids)
 
 abbrev pub both_of : Filled (List (Pattern NodeId)) → Filled (Pattern NodeId)
 both_of all = (pattern.Both (patterns_of all.0), all.1)

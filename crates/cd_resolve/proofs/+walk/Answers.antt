@@ -91,7 +91,7 @@ pub record::walk_record-record-requires : goal.record::walk_record-record-requir
 record::walk_record-record-requires t c =
     subst HaveLabels (sym (ap (λ (read : List (Name × Field) × Equations). read.0) c.in_ok-made.ensures.equations))
     (walked_labels c.args.base.now.first (names_outside c.args.base.now) (plain_levels c.args.levels.now)
-    (plain_fields c.args.fields.now) [] (plain_equations c.args.state.now.equations.items) c.requires tt)
+    (plain_fields c.args.fields.now) [] (plain_equations c.args.state.now.equations.items) c.requires.fields tt)
 
 -- the next item goes from what is left to what is walked over
 pub walk::walk_signs-loop-sign-preserved : goal.walk::walk_signs-loop-sign-preserved

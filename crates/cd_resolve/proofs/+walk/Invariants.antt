@@ -2,7 +2,7 @@ use Rattle.std.proofs.Common.{◌≡◌, ◌+◌, [], ◌∷◌, true, map, take
 use Rattle.cd_syntax.specs.TypeTree.{trees_of, signs_of, fields_of, regulars_of, declarations_of}
 use Rattle.cd_syntax.specs.PlainTree.{plain, plain_kind, plain_trees, plain_signed, plain_signs, plain_field}
 use Rattle.cd_syntax.specs.PlainTree.{plain_fields, plain_declaration, plain_declarations, plain_regular}
-use Rattle.cd_syntax.specs.PlainTree.{plain_regular_kind, plain_regulars}
+use Rattle.cd_syntax.specs.PlainTree.{plain_regular_kind, plain_regulars, plain_rest}
 use Rattle.cd_regex.specs.PlainRegular.{plain as plain_reg}
 use Rattle.cd_graph.specs.PlainFormula.{plain_named}
 use Rattle.cd_resolve.specs.Inner.Equation.{plain_equations}
@@ -14,7 +14,7 @@ use Rattle.cd_resolve.specs.Inner.PlainBase.{names_outside, lists_seen}
 use Rattle.cd_resolve.specs.Inner.PlainFound.{plain_found, plain_start}
 use Rattle.cd_resolve.specs.Inner.PlainState.{plain_levels}
 use Rattle.cd_resolve.proofs.Sizes.{size, size_kind, size_trees, size_signs, size_fields, size_declarations}
-use Rattle.cd_resolve.proofs.Sizes.{size_regular, size_regular_kind, size_regulars}
+use Rattle.cd_resolve.proofs.Sizes.{size_regular, size_regular_kind, size_regulars, size_rest}
 use Rattle.cd_resolve.proofs.+walk.Given as goal
 
 abbrev pub decreases-walk::walk : goal.decreases-walk::walk
@@ -45,7 +45,10 @@ abbrev pub decreases-walk::walk_xml : goal.decreases-walk::walk_xml
 decreases-walk::walk_xml l = suc (size (plain l.tag.now) + size (plain l.attributes.now) + size (plain l.content.now))
 
 abbrev pub decreases-record::walk_record : goal.decreases-record::walk_record
-decreases-record::walk_record l = suc (size_fields (plain_fields l.fields.now))
+decreases-record::walk_record l = suc (size_fields (plain_fields l.fields.now) + size_rest (plain_rest l.rest.now))
+
+abbrev pub decreases-record::walk_rest : goal.decreases-record::walk_rest
+decreases-record::walk_rest l = size_rest (plain_rest l.rest.now)
 
 abbrev pub decreases-declare::walk_where : goal.decreases-declare::walk_where
 decreases-declare::walk_where l =

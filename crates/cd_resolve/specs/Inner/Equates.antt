@@ -7,9 +7,9 @@ use Rattle.cd_syntax.specs.TypeTree as type
 use Rattle.cd_syntax.specs.TypeTree.{Tree, tree, Kind, Trees, NoTree, ATree, Signs, NoSign, ASign}
 use Rattle.cd_syntax.specs.TypeTree.{Fields, NoField, AField, Declarations, NoDeclaration}
 use Rattle.cd_syntax.specs.TypeTree.{ADeclaration}
+use Rattle.cd_syntax.specs.TypeTree.{Rest, Closed, Open, Typed}
 use Rattle.cd_model.specs.BuiltIns.{EMPTY, ANY, NIL, node, node_named}
 use Rattle.cd_model.specs.Formula.{Formula, Field, Pair, Xml, Record}
-use Rattle.cd_model.specs.Written.{any_or_none}
 use Rattle.cd_regex.specs.Regular.{Regular, Regulars, Nothing, Item, Seq, Alt, NoRegular, ARegular}
 use Rattle.cd_regex.specs.Regular.{AsksBelow}
 use Rattle.cd_regex.specs.Automaton.{sequence_formulas}
@@ -80,9 +80,9 @@ module _ (first : ℕ) (equations : Equations) where
       EquatesKind levels (type.Sequence is) id = (regular : Regular)
           × HaveFormulas id.0 (sequence_formulas id.0 regular)
           × EquatesRegular levels is regular × AsksBelow id.0 regular
-      EquatesKind levels (type.Record fields more) id = (named : List (Name × Field))
-          × IsAt id (Is (Record (sorted named) (node_named (any_or_none more))))
-          × EquatesFields levels fields named
+      EquatesKind levels (type.Record fields rest) id = (named : List (Name × Field))
+          × (other : NodeId) × IsAt id (Is (Record (sorted named) other))
+          × EquatesFields levels fields named × EquatesRest levels rest other
       EquatesKind levels (type.Xml tag attributes content) id = (one other last : NodeId)
           × IsAt id (Is (Xml one other last))
           × Equates levels tag one × Equates levels attributes other
@@ -120,6 +120,11 @@ module _ (first : ℕ) (equations : Equations) where
           × (field.1.optional ≡ optional)
           × Equates levels is field.1.type × EquatesFields levels rest named
       EquatesFields levels fields named = ⊥
+
+      pub EquatesRest : ScopeLevels → Rest → NodeId → Type 0
+      EquatesRest levels Closed id = id ≡ EMPTY
+      EquatesRest levels Open id = id ≡ ANY
+      EquatesRest levels (Typed is) id = Equates levels is id
 
       -- an expression over the nodes of its items
       pub EquatesRegular : ScopeLevels → type.Regular → Regular → Type 0

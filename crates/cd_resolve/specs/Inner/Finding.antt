@@ -8,6 +8,7 @@ use Rattle.cd_syntax.specs.TypeTree.{Xml, Named, Where, Trees, NoTree, ATree, Si
 use Rattle.cd_syntax.specs.TypeTree.{Fields, NoField, AField, Declarations, NoDeclaration}
 use Rattle.cd_syntax.specs.TypeTree.{ADeclaration, Regular, regular, RegularKind, Nothing, Item}
 use Rattle.cd_syntax.specs.TypeTree.{Seq, Alt, Repeat, Capture, Regulars, NoRegular, ARegular}
+use Rattle.cd_syntax.specs.TypeTree.{Rest, Closed, Open, Typed}
 use Rattle.cd_resolve.specs.declared.fault.NameFault.{NameFault}
 use Rattle.cd_resolve.specs.declared.fault.NameFault.TheVariants.{Unknown, Twice}
 use Rattle.cd_resolve.specs.Faults.{Fault}
@@ -118,8 +119,8 @@ abbrev mutual
   found_in_kind keep levels start at (Meet first signs) s = found_in_signs keep levels start signs
       (found_in keep levels start first s)
   found_in_kind keep levels start at (Sequence is) s = found_in_regular keep levels is s
-  found_in_kind keep levels start at (Record fields more) s =
-      found_in_fields keep levels fields (labelled [] fields s)
+  found_in_kind keep levels start at (Record fields rest) s =
+      found_in_rest keep levels rest (found_in_fields keep levels fields (labelled [] fields s))
   found_in_kind keep levels start at (Xml tag attributes content) s =
       found_in keep levels None content
       (found_in keep levels None attributes (found_in keep levels None tag s))
@@ -150,6 +151,11 @@ abbrev mutual
   found_in_fields keep levels NoField s = s
   found_in_fields keep levels (AField label at optional is rest) s =
       found_in_fields keep levels rest (found_in keep levels None is s)
+
+  pub found_in_rest : {N : Type 0} → (ScopeLevels → N) → ScopeLevels → Rest → State N → State N
+  found_in_rest keep levels Closed s = s
+  found_in_rest keep levels Open s = s
+  found_in_rest keep levels (Typed is) s = found_in keep levels None is s
 
   -- the declarations of the innermost list after those of these names
   pub found_in_declared : {N : Type 0} → (ScopeLevels → N) → ScopeLevels → ℕ → List Name

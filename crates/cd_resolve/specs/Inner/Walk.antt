@@ -1,5 +1,5 @@
 -- What a walk over a tree makes: the node of its type, and equations after those that are there.
-use Rattle.std.specs.Prelude.{ℕ, ◌+◌, zero, suc, Bool, true, List, [], ◌∷◌, ◌++◌, map, length}
+use Rattle.std.specs.Prelude.{ℕ, ◌+◌, zero, suc, true, List, [], ◌∷◌, ◌++◌, map, length}
 use Rattle.std.specs.Prelude.{Option, Some, None, slice_set}
 use Rattle.cd_sets.specs.declared.node_id.NodeId.{NodeId}
 use Rattle.cd_syntax.specs.Name.{Name}
@@ -7,10 +7,10 @@ use Rattle.cd_syntax.specs.TypeTree as type
 use Rattle.cd_syntax.specs.TypeTree.{Tree, tree, Kind, Trees, NoTree, ATree, Signs, NoSign, ASign}
 use Rattle.cd_syntax.specs.TypeTree.{Fields, NoField, AField, Declarations, NoDeclaration}
 use Rattle.cd_syntax.specs.TypeTree.{ADeclaration}
+use Rattle.cd_syntax.specs.TypeTree.{Rest, Closed, Open, Typed}
 use Rattle.cd_syntax.specs.declared.type_tree.Post.{Post}
 use Rattle.cd_model.specs.BuiltIns.{EMPTY, ANY, NIL, node, node_named}
 use Rattle.cd_model.specs.Formula.{Formula, Field, Pair, Xml, Record}
-use Rattle.cd_model.specs.Written.{any_or_none}
 use Rattle.cd_regex.specs.Regular.{Regular, Nothing, Item, Seq, Alt, NoRegular, regulars_of}
 use Rattle.cd_regex.specs.Automaton.{sequence_formulas}
 use Rattle.cd_resolve.specs.Inner.Equation.{Equation, Equations, Is, Same, And, Or}
@@ -97,8 +97,9 @@ module _ (first : ℕ) where
   abbrev pub met_all : List Sign × Equations → Read
   met_all all = met (meet_of all.0) all.1
 
-  abbrev pub recorded : Bool → List (Name × Field) × Equations → Read
-  recorded more all = pushed (Is (Record (sorted all.0) (node_named (any_or_none more)))) all.1
+  -- a record type, whose rest was read last
+  abbrev pub recorded : List (Name × Field) → Read → Read
+  recorded named rest = pushed (Is (Record (sorted named) rest.0)) rest.1
 
   -- an XML type, whose content was read last
   abbrev pub elements : NodeId → NodeId → Read → Read
@@ -148,8 +149,9 @@ module _ (first : ℕ) where
       walked_kind levels (type.Meet one signs) s = met_all
           (walked_signs levels signs ((true, (walked levels one s).0) ∷ []) (walked levels one s).1)
       walked_kind levels (type.Sequence is) s = sequenced (walked_regular levels is s)
-      walked_kind levels (type.Record fields more) s =
-          recorded more (walked_fields levels fields [] s)
+      walked_kind levels (type.Record fields rest) s =
+          recorded (walked_fields levels fields [] s).0
+          (walked_rest levels rest (walked_fields levels fields [] s).1)
       walked_kind levels (type.Xml tag attributes content) s =
           elements (walked levels tag s).0 (walked levels attributes (walked levels tag s).1).0
           (walked levels content (walked levels attributes (walked levels tag s).1).1)
@@ -172,6 +174,11 @@ module _ (first : ℕ) where
       walked_signs levels (ASign kept is rest) made s =
           walked_signs levels rest (one_more made (kept, (walked levels is s).0))
           (walked levels is s).1
+
+      pub walked_rest : ScopeLevels → Rest → Equations → Read
+      walked_rest levels Closed s = (EMPTY, s)
+      walked_rest levels Open s = (ANY, s)
+      walked_rest levels (Typed is) s = walked levels is s
 
       pub walked_fields : ScopeLevels → Fields → List (Name × Field) → Equations
           → List (Name × Field) × Equations

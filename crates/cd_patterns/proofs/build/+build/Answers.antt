@@ -3,12 +3,13 @@ use Rattle.std.proofs.lemmas.Result.{IfOk-weaker}
 use Rattle.cd_syntax.specs.TypeTree.{fields_of}
 use Rattle.cd_syntax.specs.PlainTree.{plain as plain_tree, plain_trees}
 use Rattle.cd_syntax.specs.PlainTree.{plain_field as plain_field_tree}
+use Rattle.cd_syntax.specs.PlainTree.{plain_fields as plain_field_trees, plain_rest}
 use Rattle.cd_matching.specs.PlainPattern.{plain, plain_field}
 use Rattle.cd_matching.specs.WrittenPattern.{field_patterns}
 use Rattle.cd_resolve.proofs.Sizes.{below, trees_fall, signs_fall, fields_fall, regulars_fall}
 use Rattle.cd_resolve.proofs.Views.{signed_is, field_is, at_item}
 use Rattle.cd_patterns.specs.Inner.Types.{fields_filled}
-use Rattle.cd_patterns.proofs.Filling.{tuple_made, optional_next, present_next}
+use Rattle.cd_patterns.proofs.Filling.{tuple_made, record_filled, optional_next, present_next}
 use Rattle.cd_patterns.proofs.build.+build.Goals as goal
 use Rattle.cd_patterns.proofs.build.+build.Goals.{build_fields-then-field+in_ok-push}
 use Rattle.cd_patterns.proofs.build.+build.Goals.{build_fields-else-field+in_ok-build+in_ok-push-2}
@@ -55,6 +56,14 @@ build_tuple-returns t c = IfOk-weaker c.pairs.result _ _
     c.build_trees.new.roots.left.now
     (map plain c.in_ok-all.all.items) (plain made) c.in_ok-all.ensures is)
     c.pairs.ensures
+
+-- the patterns of a record's fields, and the node of its rest
+pub build_record-returns : goal.build_record-returns
+build_record-returns t c = IfOk-weaker c.with_rest.result _ _
+    (λ made is. record_filled (plain_field_trees c.args.fields.now) (plain_rest c.args.rest.now)
+    c.args.roots.now.left.now c.build_fields.new.roots.left.now (map plain_field c.in_ok-fields.fields.items)
+    (plain made, c.with_rest.new.roots.left.now) c.in_ok-fields.ensures is)
+    c.with_rest.ensures
 
 -- the next field goes from what is left to what was made
 pub build_fields-loop-field-preserved : goal.build_fields-loop-field-preserved

@@ -5,12 +5,12 @@ use Rattle.cd_syntax.specs.PlainTree.{plain_signs}
 use Rattle.cd_syntax.specs.PlainTree.{plain_field as plain_field_tree}
 use Rattle.cd_syntax.specs.PlainTree.{plain_fields as plain_field_trees}
 use Rattle.cd_syntax.specs.PlainTree.{plain_regular as plain_reg_tree, plain_regular_kind}
-use Rattle.cd_syntax.specs.PlainTree.{plain_regulars as plain_reg_trees}
+use Rattle.cd_syntax.specs.PlainTree.{plain_regulars as plain_reg_trees, plain_rest}
 use Rattle.cd_matching.specs.PlainPattern.{plain, plain_field, plain_regular}
 use Rattle.cd_matching.specs.WrittenPattern.{patterns, signed_patterns, field_patterns}
 use Rattle.cd_matching.specs.WrittenPattern.{regular_patterns}
 use Rattle.cd_resolve.proofs.Sizes.{size, size_kind, size_trees, size_signs, size_fields}
-use Rattle.cd_resolve.proofs.Sizes.{size_regular, size_regular_kind, size_regulars}
+use Rattle.cd_resolve.proofs.Sizes.{size_regular, size_regular_kind, size_regulars, size_rest}
 use Rattle.cd_patterns.specs.Inner.Types.{all_filled, fields_filled, regulars_filled}
 use Rattle.cd_patterns.proofs.build.+build.Given as goal
 
@@ -33,6 +33,10 @@ abbrev pub decreases-build_xml : goal.decreases-build_xml
 decreases-build_xml l =
     suc (size (plain_tree l.tag.now) + size (plain_tree l.attributes.now) + size
     (plain_tree l.content.now))
+
+abbrev pub decreases-build_record : goal.decreases-build_record
+decreases-build_record l =
+    suc (size_fields (plain_field_trees l.fields.now) + size_rest (plain_rest l.rest.now))
 
 abbrev pub decreases-build_fields : goal.decreases-build_fields
 decreases-build_fields l = size_fields (plain_field_trees l.fields.now)

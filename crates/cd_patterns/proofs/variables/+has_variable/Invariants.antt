@@ -4,12 +4,12 @@ use Rattle.cd_syntax.specs.PlainTree.{plain, plain_kind, plain_trees, plain_sign
 use Rattle.cd_syntax.specs.PlainTree.{plain_field}
 use Rattle.cd_syntax.specs.PlainTree.{plain_fields, plain_declaration, plain_declarations}
 use Rattle.cd_syntax.specs.PlainTree.{plain_regular}
-use Rattle.cd_syntax.specs.PlainTree.{plain_regular_kind, plain_regulars}
+use Rattle.cd_syntax.specs.PlainTree.{plain_regular_kind, plain_regulars, plain_rest}
 use Rattle.cd_matching.specs.WrittenPattern.{trees_have, signs_have, fields_have, declarations_have}
 use Rattle.cd_matching.specs.WrittenPattern.{regulars_have}
 use Rattle.cd_resolve.proofs.Sizes.{size, size_kind, size_trees, size_signs, size_fields}
 use Rattle.cd_resolve.proofs.Sizes.{size_declarations}
-use Rattle.cd_resolve.proofs.Sizes.{size_regular, size_regular_kind, size_regulars}
+use Rattle.cd_resolve.proofs.Sizes.{size_regular, size_regular_kind, size_regulars, size_rest}
 use Rattle.cd_patterns.proofs.variables.+has_variable.Given as goal
 
 abbrev pub decreases-has_variable : goal.decreases-has_variable
@@ -26,6 +26,9 @@ decreases-signs_have l = size_signs (plain_signs l.signs.now)
 
 abbrev pub decreases-fields_have : goal.decreases-fields_have
 decreases-fields_have l = size_fields (plain_fields l.fields.now)
+
+abbrev pub decreases-rest_has : goal.decreases-rest_has
+decreases-rest_has l = size_rest (plain_rest l.rest.now)
 
 abbrev pub decreases-declarations_have : goal.decreases-declarations_have
 decreases-declarations_have l = size_declarations (plain_declarations l.declarations.now)

@@ -1,10 +1,10 @@
-use Rattle.std.proofs.Common.{◌≡◌, List, OnOk, ap, sym, subst, rules}
-use Rattle.cd_syntax.specs.PlainTree.{plain_trees}
+use Rattle.std.proofs.Common.{◌≡◌, List, OnOk, ap, sym, subst, ◌∙◌, rules}
+use Rattle.cd_syntax.specs.PlainTree.{plain_trees, plain_fields, plain_rest}
 use Rattle.cd_model.specs.Written.{Written}
 use Rattle.cd_resolve.proofs.Sizes.{below, trees_fall, signs_fall, fields_fall, regulars_fall}
 use Rattle.cd_resolve.proofs.Views.{signed_is, field_is}
-use Rattle.cd_patterns.specs.Inner.Types.{wanted_types}
-use Rattle.cd_patterns.proofs.TypesInTurn.{tuple_after}
+use Rattle.cd_patterns.specs.Inner.Types.{wanted_types, rest_after}
+use Rattle.cd_patterns.proofs.TypesInTurn.{tuple_after, record_after}
 use Rattle.cd_patterns.proofs.wanted.+want.Goals as goal
 
 -- each item of a list is smaller than the list
@@ -49,3 +49,14 @@ want_tuple-returns t c =
     (wanted_types c.want_trees.new.wanted.items ≡ types))
     (sym (tuple_after (plain_trees c.args.trees.now) (wanted_types c.args.wanted.now.items)))
     c.want_trees.ensures
+
+-- the types of a record are those of its fields, and its rest
+pub want_record-returns : goal.want_record-returns
+want_record-returns t c =
+    let fields = plain_fields c.args.fields.now in
+    let rest = plain_rest c.args.rest.now in
+    subst (λ (types : List Written). OnOk c.want_rest.result
+    (wanted_types c.want_rest.new.wanted.items ≡ types))
+    (ap (rest_after fields rest) c.in_ok-want_fields.ensures
+    ∙ sym (record_after fields rest (wanted_types c.args.wanted.now.items)))
+    c.want_rest.ensures

@@ -1,13 +1,13 @@
-use Rattle.std.proofs.Common.{◌≡◌, [], suc, map, drop}
+use Rattle.std.proofs.Common.{◌≡◌, [], suc, ◌+◌, map, drop}
 use Rattle.cd_syntax.specs.TypeTree.{trees_of, signs_of, fields_of, regulars_of}
 use Rattle.cd_syntax.specs.PlainTree.{plain, plain_kind, plain_trees, plain_signed, plain_signs}
 use Rattle.cd_syntax.specs.PlainTree.{plain_field}
 use Rattle.cd_syntax.specs.PlainTree.{plain_fields, plain_regular, plain_regular_kind}
-use Rattle.cd_syntax.specs.PlainTree.{plain_regulars}
+use Rattle.cd_syntax.specs.PlainTree.{plain_regulars, plain_rest}
 use Rattle.cd_matching.specs.WrittenPattern.{patterns, signed_patterns, field_patterns}
 use Rattle.cd_matching.specs.WrittenPattern.{regular_patterns}
 use Rattle.cd_resolve.proofs.Sizes.{size, size_kind, size_trees, size_signs, size_fields}
-use Rattle.cd_resolve.proofs.Sizes.{size_regular, size_regular_kind, size_regulars}
+use Rattle.cd_resolve.proofs.Sizes.{size_regular, size_regular_kind, size_regulars, size_rest}
 use Rattle.cd_patterns.specs.Inner.Types.{wanted_types, all_after, fields_after, regulars_after}
 use Rattle.cd_patterns.proofs.wanted.+want.Given as goal
 
@@ -25,6 +25,9 @@ decreases-want_trees l = size_trees (plain_trees l.trees.now)
 
 abbrev pub decreases-want_signs : goal.decreases-want_signs
 decreases-want_signs l = size_signs (plain_signs l.signs.now)
+
+abbrev pub decreases-want_record : goal.decreases-want_record
+decreases-want_record l = suc (size_fields (plain_fields l.fields.now) + size_rest (plain_rest l.rest.now))
 
 abbrev pub decreases-want_fields : goal.decreases-want_fields
 decreases-want_fields l = size_fields (plain_fields l.fields.now)

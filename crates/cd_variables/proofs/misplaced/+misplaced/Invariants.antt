@@ -2,12 +2,12 @@ use Rattle.std.proofs.Common.{◌≡◌, map, drop}
 use Rattle.cd_syntax.specs.TypeTree.{trees_of, signs_of, fields_of, regulars_of, declarations_of}
 use Rattle.cd_syntax.specs.PlainTree.{plain, plain_kind, plain_trees, plain_signed, plain_signs, plain_field}
 use Rattle.cd_syntax.specs.PlainTree.{plain_fields, plain_declaration, plain_declarations, plain_regular}
-use Rattle.cd_syntax.specs.PlainTree.{plain_regular_kind, plain_regulars}
+use Rattle.cd_syntax.specs.PlainTree.{plain_regular_kind, plain_regulars, plain_rest}
 use Rattle.cd_variables.specs.FindingMisplaced.{misplaced_in_trees, misplaced_in_signs, misplaced_in_fields}
 use Rattle.cd_variables.specs.FindingMisplaced.{misplaced_in_declarations, misplaced_in_regulars}
 use Rattle.cd_resolve.specs.PlainReported.{plain_reported}
 use Rattle.cd_resolve.proofs.Sizes.{size, size_kind, size_trees, size_signs, size_fields, size_declarations}
-use Rattle.cd_resolve.proofs.Sizes.{size_regular, size_regular_kind, size_regulars}
+use Rattle.cd_resolve.proofs.Sizes.{size_regular, size_regular_kind, size_regulars, size_rest}
 use Rattle.cd_variables.proofs.misplaced.+misplaced.Given as goal
 
 abbrev pub decreases-report_misplaced : goal.decreases-report_misplaced
@@ -24,6 +24,9 @@ decreases-report_in_signs l = size_signs (plain_signs l.signs.now)
 
 abbrev pub decreases-report_in_fields : goal.decreases-report_in_fields
 decreases-report_in_fields l = size_fields (plain_fields l.fields.now)
+
+abbrev pub decreases-report_in_rest : goal.decreases-report_in_rest
+decreases-report_in_rest l = size_rest (plain_rest l.rest.now)
 
 abbrev pub decreases-report_in_declarations : goal.decreases-report_in_declarations
 decreases-report_in_declarations l = size_declarations (plain_declarations l.declarations.now)
