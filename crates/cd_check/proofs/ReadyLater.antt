@@ -6,7 +6,7 @@ use Rattle.cd_model.specs.Formula.{Graph, IsGraph}
 use Rattle.cd_resolve.specs.Named.{AreNamed, Names}
 use Rattle.cd_resolve.proofs.Kept.{names_kept}
 use Rattle.cd_meaning.specs.Sequences.{IsSequence, IsListOf}
-use Rattle.cd_typing.specs.Operators.{truth}
+use Rattle.cd_typing.specs.Operators.{truth, IsNumbers}
 use Rattle.cd_operators.specs.Tools.{AreTools, IsZero}
 use Rattle.cd_operators.specs.declared.tools.Tools.{Tools}
 use Rattle.cd_empty.specs.Growth.{Grows}
@@ -32,6 +32,9 @@ module _ (graph later : Graph) (is : IsLater graph later) (sound : IsGraph graph
     zero = below_later graph later is tools.zero are.zero;
     is_zero = only_later graph later is sound tools.zero are.zero IsZero are.is_zero;
     all_zero = still_holds graph later is sound tools.zero are.zero IsZero are.all_zero;
+    numbers = below_later graph later is tools.numbers are.numbers;
+    are_numbers = only_later graph later is sound tools.numbers are.numbers IsNumbers are.are_numbers;
+    all_numbers = still_holds graph later is sound tools.numbers are.numbers IsNumbers are.all_numbers;
   }
 
   pub truth_later : (value : Bool) (id : NodeId) → IsTruth graph value id → IsTruth later value id

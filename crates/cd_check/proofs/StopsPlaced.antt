@@ -33,6 +33,8 @@ word_breaks scope types word.Not e at reported d is = is
 word_breaks scope types word.Flatten e at reported d is = is
 word_breaks scope types word.IntOf e at reported d is = is
 word_breaks scope types word.StringOf e at reported d is = is
+word_breaks scope types word.MinOf e at reported d is = is
+word_breaks scope types word.MaxOf e at reported d is = is
 word_breaks scope types word.Raise e at reported d is = is
 
 pub word_placed : (scope : Scope) (old : Graph) (nodes : Nodes) (graph : Graph) (e : Expr) (id : NodeId) → IsKnown old nodes scope graph e id

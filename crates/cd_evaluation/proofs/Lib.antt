@@ -13,6 +13,8 @@ pub mod UnwindingSteps
 pub mod MeasureFalls
 pub mod MachineRight
 pub mod CountIsEnough
+pub mod ExtremesFound
+pub mod ExtremesLeast
 pub mod FunctionsFound
 pub mod ProgramTakes
 pub mod CapturedNames

@@ -39,7 +39,7 @@ mutual
       and_then (if takes_away signs then [] else bound first) (bound_by_signs signs)
       (if_not (takes_away signs) (bound first) (bound_labels first made.0)) (sign_labels signs made.1)
   in_labels at (Sequence r) made = and_then (plain r) (gathered r) (plain_labels r made) (gathered_labels r made)
-  in_labels at (Record fields more) made = field_labels fields made
+  in_labels at (Record fields rest) made = field_labels fields made.0
   in_labels at (Xml tag attributes content) made = and_then (bound tag ++ bound attributes) (bound content)
       (and_then (bound tag) (bound attributes) (bound_labels tag made.0) (bound_labels attributes made.1)) (bound_labels content made.2)
   in_labels at (Variable name) made = (made, tt)

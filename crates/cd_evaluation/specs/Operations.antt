@@ -1,6 +1,6 @@
 -- What operators, words and other forms do with the values of their operands.
 use Rattle.std.specs.Prelude.{ℤ, ◌+ℤ◌, ◌-ℤ◌, ◌*ℤ◌, int_le, int_lt, int_div, int_rem, ℕ, List}
-use Rattle.std.specs.Prelude.{Bool, true, false, not, Option, Some, None, codes}
+use Rattle.std.specs.Prelude.{[], ◌∷◌, Bool, true, false, not, Option, Some, None, codes}
 use Rattle.std.specs.Prelude.{bytes_eq, if◌then◌else◌}
 use Rattle.std.specs.Fmt.{signed_decimal}
 use Rattle.cd_syntax.specs.Name.{Name}
@@ -70,11 +70,27 @@ abbrev pub string_of : Thing → Outcome
 string_of (Integer n) = Done (text_of (signed_decimal n))
 string_of _ = Stuck
 
+-- the integer that stands first in an order: among these and a number, and among some items
+abbrev pub first_among : (ℤ → ℤ → Bool) → ℤ → List Thing → Option ℤ
+first_among before n [] = Some n
+first_among before n (Integer m ∷ rest) = first_among before (if before m n then m else n) rest
+first_among before n (_ ∷ rest) = None
+
+abbrev pub extreme : (ℤ → ℤ → Bool) → Option (List Thing) → Option ℤ
+extreme before (Some (Integer n ∷ rest)) = first_among before n rest
+extreme before _ = None
+
+abbrev pub if_found : Option ℤ → Outcome
+if_found None = Stuck
+if_found (Some n) = Done (Integer n)
+
 abbrev pub word_outcome : Word → Thing → Outcome
 word_outcome word.Not v = inverted (truth_of v)
 word_outcome word.Flatten v = flattened (items v)
 word_outcome word.IntOf v = int_of (characters_of v)
 word_outcome word.StringOf v = string_of v
+word_outcome word.MinOf v = if_found (extreme (λ n m. int_lt n m) (items v))
+word_outcome word.MaxOf v = if_found (extreme (λ n m. int_lt m n) (items v))
 word_outcome word.Raise v = Raised v
 
 -- a record without the field of a label, and its field there

@@ -23,7 +23,7 @@ use Rattle.cd_meaning.specs.Sets.{Set, ◌⊆◌}
 use Rattle.cd_typing.specs.declared.rule.Rule.{Rule}
 use Rattle.cd_typing.specs.declared.rule.Rule.TheVariants as rule
 use Rattle.cd_typing.specs.Branches.{Cover}
-use Rattle.cd_typing.specs.Operators.{IsReached, WordGives, AreIntegers, IsPlus}
+use Rattle.cd_typing.specs.Operators.{IsReached, WordGives, AreIntegers, IsPlus, IsNumbers}
 use Rattle.cd_typing.specs.Typ.{Typ, In, IsType, BuiltIn, Types, with_type, AreNarrower}
 use Rattle.cd_typing.specs.Typing.{Has, KindHas, HaveAll, ItemsHave, FieldsHave, FunctionHas}
 use Rattle.cd_typing.specs.Typing.{ArgumentsHave, TailsHave, TailHas, BodiesHave}
@@ -210,6 +210,10 @@ module _ (scope : Scope) where
       breaks_none types e (BuiltIn STRING) rule.Text at reported d fault s is has gives.0
   word_none types word.StringOf e at reported d fault s result is has gives =
       breaks_none types e (BuiltIn INT) rule.Operand at reported d fault s is has gives.0
+  word_none types word.MinOf e at reported d fault s result is has gives =
+      breaks_none types e IsNumbers rule.Numbers at reported d fault s is has gives.0
+  word_none types word.MaxOf e at reported d fault s result is has gives =
+      breaks_none types e IsNumbers rule.Numbers at reported d fault s is has gives.0
   word_none types word.Raise e at reported d fault s result is has gives =
       breaks_none types e (BuiltIn DATA) rule.Exception at reported d fault s is has gives
 

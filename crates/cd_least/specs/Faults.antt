@@ -29,7 +29,7 @@ use Rattle.cd_typing.specs.declared.rule.Rule.{Rule}
 use Rattle.cd_typing.specs.declared.rule.Rule.TheVariants as rule
 use Rattle.cd_typing.specs.Branches.{IsFirst}
 use Rattle.cd_typing.specs.Interfaces.{Arrow, AreWritten, IsIntersection}
-use Rattle.cd_typing.specs.Operators.{truth, IsReached}
+use Rattle.cd_typing.specs.Operators.{truth, IsReached, IsNumbers}
 use Rattle.cd_typing.specs.Typ.{Typ, In, IsType, BuiltIn, Types, with_type}
 use Rattle.cd_typing.specs.Typing.{Has}
 use Rattle.cd_least.specs.Misses.{HasSome, Least, Misses, IsUncovered, AreCaptured}
@@ -110,6 +110,8 @@ module _ (scope : Scope) where
   WordFault types word.Flatten e = Breaks types e (IsListOf IsSequence) rule.Sequence
   WordFault types word.IntOf e = Breaks types e (BuiltIn STRING) rule.Text
   WordFault types word.StringOf e = Breaks types e (BuiltIn INT) rule.Operand
+  WordFault types word.MinOf e = Breaks types e IsNumbers rule.Numbers
+  WordFault types word.MaxOf e = Breaks types e IsNumbers rule.Numbers
   WordFault types word.Raise e = Breaks types e (BuiltIn DATA) rule.Exception
 
   -- the right operand is met: that of `&&` and of `||` through a truth value of the left one

@@ -15,3 +15,4 @@ mod PairsCompared
 mod DigitsRead
 mod CharactersRead
 mod Decimals
+mod Seeking

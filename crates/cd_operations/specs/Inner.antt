@@ -3,3 +3,4 @@ pub mod Joins
 pub mod Merging
 pub mod Comparing
 pub mod Spelling
+pub mod Extremes

@@ -6,6 +6,7 @@ mod arithmetic;
 pub mod constants;
 pub mod ending;
 mod equality;
+mod extremes;
 pub mod joins;
 mod merging;
 pub mod operators;

@@ -10,6 +10,7 @@ ghost use Rattle.cd_operations.specs.Endings.{plain_ending, IsEnding};
 
 use crate::added::integer;
 use crate::ending::Ending;
+use crate::extremes::{Extreme, extreme_of};
 use crate::joins::flattened;
 use crate::spelling::spelled;
 use crate::texts::{collect, decimal_of};
@@ -40,6 +41,8 @@ pub fn say(
         BuiltIn::Flatten => flattened(alloc, values, value),
         BuiltIn::IntOf => int_of(alloc, values, value),
         BuiltIn::StringOf => string_of(alloc, values, value),
+        BuiltIn::MinOf => Ok(extreme_of(values, Extreme::Least, value)),
+        BuiltIn::MaxOf => Ok(extreme_of(values, Extreme::Greatest, value)),
         BuiltIn::Raise => Ok(Ending::Raised(value)),
     }
 }

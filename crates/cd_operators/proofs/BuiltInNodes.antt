@@ -1,5 +1,6 @@
 -- The built-in nodes of a graph that begins with them.
-use Rattle.std.proofs.Common.{◌≡◌, ◌<◌, ◌++◌, Result, OnOk, length, sym, subst}
+use Rattle.std.proofs.Common.{◌≡◌, ◌<◌, ◌++◌, Result, OnOk, length, sym, subst, arith}
+use Rattle.std.proofs.Common.{length-append}
 use Rattle.std.proofs.lemmas.Result.{on_ok_weaker}
 use Rattle.cd_sets.specs.declared.node_id.NodeId.{NodeId}
 use Rattle.cd_model.specs.BuiltIns.{built_ins, ANY}
@@ -18,6 +19,10 @@ module _ (graph : Graph) (begins : (more : Graph) × (graph ≡ built_ins ++ mor
       (model.all_are_any begins.0 no_closure e)
 
   module _ (id : NodeId) (below : id.0 < length built_ins) where
+    pub is_there : id.0 < length graph
+    is_there = subst (λ (g : Graph). id.0 < length g) (sym begins.1)
+        (let lengths = length-append built_ins begins.0 in omega (arith, lengths, below))
+
     pub type_in_node : BuiltIn id ⊆ elements_of graph id
     type_in_node = typing.built_in_within graph begins.0 begins.1 id below
 

@@ -4,6 +4,7 @@ mod BuiltInNodes
 mod Refused
 mod LaterWorlds
 mod ListsOfLists
+mod Numbers
 mod NodesKept
 mod ZeroAsked
 mod OpenRecords

@@ -1,18 +1,22 @@
 -- Nodes that hold a set, and the nodes that operators ask about.
-use Rattle.std.proofs.Common.{◌≡◌, ◌<◌, ◌++◌, length}
+use Rattle.std.proofs.Common.{◌≡◌, ◌<◌, ◌++◌, [], ◌∷◌, length}
 use Rattle.cd_sets.specs.declared.node_id.NodeId.{NodeId}
-use Rattle.cd_model.specs.BuiltIns.{built_ins, ANY}
+use Rattle.cd_model.specs.BuiltIns.{built_ins, ANY, INT}
 use Rattle.cd_model.specs.Formula.{Graph, IsGraph}
 use Rattle.cd_meaning.specs.Sets.{Set, ◌⊆◌, elements_of}
 use Rattle.cd_meaning.specs.Sequences.{IsSequence, IsListOf}
 use Rattle.cd_typing.specs.Later.{IsLater}
+use Rattle.cd_typing.specs.Operators.{IsNumbers}
+use Rattle.cd_typing.specs.Results.{IsTupleOf}
+use Rattle.cd_typing.specs.Typ.{BuiltIn, typ}
 use Rattle.cd_typing.proofs.Later.{only_later, still_holds, below_later}
 use Rattle.cd_typing.proofs.Subsets.{through}
 use Rattle.cd_least.proofs.Monotone.{lists_grow}
 use Rattle.cd_operators.specs.declared.tools.Tools.{Tools}
 use Rattle.cd_operators.specs.Tools.{AreTools, IsZero}
-use Rattle.cd_operators.proofs.BuiltInNodes.{all_are_any}
+use Rattle.cd_operators.proofs.BuiltInNodes.{all_are_any, is_there, type_in_node, node_in_type}
 use Rattle.cd_operators.proofs.ListsOfLists.{list_is_sequence, sequence_is_list}
+use Rattle.cd_operators.proofs.Numbers.{numbers_are_tuples, tuples_are_numbers}
 
 -- a node holds just this set
 pub record Holds (graph : Graph) (id : NodeId) (set : Set) : Type 0 where
@@ -26,6 +30,15 @@ holds_later graph later is sound id set holds = record {
   is_node = below_later graph later is id holds.is_node;
   only = only_later graph later is sound id holds.is_node set holds.only;
   all = still_holds graph later is sound id holds.is_node set holds.all;
+}
+
+-- a built-in node
+pub holds_built_in : (graph : Graph) → (more : Graph) × (graph ≡ built_ins ++ more)
+    → (id : NodeId) → id.0 < length built_ins → Holds graph id (BuiltIn id)
+holds_built_in graph begins id below = record {
+  is_node = is_there graph begins id below;
+  only = node_in_type graph begins id below;
+  all = type_in_node graph begins id below;
 }
 
 -- the node of all lists of anything
@@ -53,10 +66,25 @@ module _ (graph later : Graph) (id : NodeId) (is_node : id.0 < length later) whe
         (lists_grow set (elements_of graph item) holds.all) has;
   }
 
+  -- and of an integer and a list of integers
+  pub holds_numbers : (integers : NodeId) → Holds graph INT (BuiltIn INT)
+      → Holds graph integers (IsListOf (BuiltIn INT))
+      → IsTupleOf (typ graph INT ∷ typ graph integers ∷ []) ⊆ elements_of later id
+      → elements_of later id ⊆ IsTupleOf (typ graph INT ∷ typ graph integers ∷ [])
+      → Holds later id IsNumbers
+  holds_numbers integers one rest has only =
+      let parts = IsTupleOf (typ graph INT ∷ typ graph integers ∷ []) in record {
+        is_node = is_node;
+        only = through (elements_of later id) parts IsNumbers only
+            (tuples_are_numbers (typ graph INT) (typ graph integers) one.only rest.only);
+        all = through IsNumbers parts (elements_of later id)
+            (numbers_are_tuples (typ graph INT) (typ graph integers) one.all rest.all) has;
+      }
+
 pub are_tools : (graph : Graph) (tools : Tools) → Holds graph tools.sequences IsSequence
     → Holds graph tools.lists (IsListOf IsSequence) → Holds graph tools.zero IsZero
-    → AreTools graph tools
-are_tools graph tools sequences lists zero = record {
+    → Holds graph tools.numbers IsNumbers → AreTools graph tools
+are_tools graph tools sequences lists zero numbers = record {
   sequences = sequences.is_node;
   are_sequences = sequences.only;
   all_sequences = sequences.all;
@@ -66,4 +94,7 @@ are_tools graph tools sequences lists zero = record {
   zero = zero.is_node;
   is_zero = zero.only;
   all_zero = zero.all;
+  numbers = numbers.is_node;
+  are_numbers = numbers.only;
+  all_numbers = numbers.all;
 }

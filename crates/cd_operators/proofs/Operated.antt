@@ -1,6 +1,5 @@
 -- What operators make of operands is within what they give for wider ones.
-use Rattle.std.proofs.Common.{◌≡◌, ◌⊎◌, ◌+ℤ◌, ℤ, [], codes, inl, inr, refl, subst, sym, true≢false}
-use Rattle.std.proofs.lemmas.Slice.Eq.{bytes_eq-Decides}
+use Rattle.std.proofs.Common.{◌≡◌, ◌⊎◌, ◌+ℤ◌, ℤ, [], codes, inl, inr, refl, subst, sym}
 use Rattle.cd_syntax.specs.Name.{IsLabel}
 use Rattle.cd_model.specs.BuiltIns.{INT, BOOL, RECORD, EMPTY}
 use Rattle.cd_model.specs.Kinds.{kind_of, AnInteger, ARecord, Kind}

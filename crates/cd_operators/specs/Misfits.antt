@@ -12,6 +12,7 @@ use Rattle.cd_program.specs.declared.operator.BuiltIn.{BuiltIn as Word}
 use Rattle.cd_program.specs.declared.operator.BuiltIn.TheVariants as word
 use Rattle.cd_meaning.specs.Sets.{Set, ◌⊆◌, elements_of}
 use Rattle.cd_meaning.specs.Sequences.{IsSequence, IsListOf}
+use Rattle.cd_typing.specs.Operators.{IsNumbers}
 use Rattle.cd_typing.specs.Typ.{BuiltIn}
 use Rattle.cd_operators.specs.declared.misfit.Side.{Side}
 use Rattle.cd_operators.specs.declared.misfit.Side.TheVariants as side
@@ -27,6 +28,8 @@ WordNeeds word.Not = BuiltIn BOOL
 WordNeeds word.Flatten = IsListOf IsSequence
 WordNeeds word.IntOf = BuiltIn STRING
 WordNeeds word.StringOf = BuiltIn INT
+WordNeeds word.MinOf = IsNumbers
+WordNeeds word.MaxOf = IsNumbers
 WordNeeds word.Raise = BuiltIn DATA
 
 abbrev pub rule_of : Word → Rule
@@ -34,6 +37,8 @@ rule_of word.Not = rule.Condition
 rule_of word.Flatten = rule.Sequence
 rule_of word.IntOf = rule.Text
 rule_of word.StringOf = rule.Operand
+rule_of word.MinOf = rule.Numbers
+rule_of word.MaxOf = rule.Numbers
 rule_of word.Raise = rule.Exception
 
 -- an element of the table is in the node, and is not what is needed

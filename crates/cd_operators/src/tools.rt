@@ -6,8 +6,8 @@ ghost use Rattle.cd_empty.specs.Seen.{graph_of};
 ghost use Rattle.cd_operators.specs.Tools.{AreTools};
 
 use cd_empty::World;
-use cd_forms::constant;
-use cd_graph::built_in::ANY;
+use cd_forms::{constant, tuple};
+use cd_graph::built_in::{ANY, INT};
 use cd_sequences::list_of;
 use cd_sets::node_id::NodeId;
 use cd_syntax::constant::Constant;
@@ -22,6 +22,8 @@ pub struct Tools {
     pub lists: NodeId,
     /// The integer 0.
     pub zero: NodeId,
+    /// The sequences of one integer at least.
+    pub numbers: NodeId,
 }
 
 /// Puts these nodes into the graph.
@@ -39,9 +41,12 @@ pub fn put_tools(alloc: Global, world: &mut World) -> Result<Tools, AllocError>
     let sequences = list_of(alloc, world, ANY)?;
     let lists = list_of(alloc, world, sequences)?;
     let zero = constant(alloc, world, &Constant::Int(0))?;
+    let integers = list_of(alloc, world, INT)?;
+    let numbers = tuple(alloc, world, &[INT, integers])?;
     Ok(Tools {
         sequences,
         lists,
         zero,
+        numbers,
     })
 }

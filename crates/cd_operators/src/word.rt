@@ -57,6 +57,10 @@ pub fn call(
             need(world, Side::First, operand, INT, Rule::Operand)?;
             Ok(STRING)
         }
+        BuiltIn::MinOf | BuiltIn::MaxOf => {
+            need(world, Side::First, operand, tools.numbers, Rule::Numbers)?;
+            Ok(items(alloc, world, operand)?)
+        }
         BuiltIn::Raise => {
             need(world, Side::First, operand, DATA, Rule::Exception)?;
             Ok(EMPTY)

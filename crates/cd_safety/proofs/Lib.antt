@@ -11,9 +11,11 @@ pub mod SortsByParts
 pub mod SequencesGood
 pub mod RecordsGood
 pub mod IntegersGood
+pub mod ExtremesGood
 pub mod OperationsGood
 pub mod SequencesStandIn
 pub mod RecordsStandIn
+pub mod ExtremesStandIn
 pub mod OperationsStandIn
 pub mod BuiltInElements
 pub mod ItemsOfSequences
@@ -21,6 +23,7 @@ pub mod FieldsAtLabels
 pub mod IntegersGiven
 pub mod SequencesGiven
 pub mod RecordsGiven
+pub mod ExtremesGiven
 pub mod OperatorsGiven
 pub mod OperandsStandIn
 pub mod OperatorsSafe

@@ -17,6 +17,7 @@ use Rattle.cd_evaluation.specs.Integers.{spelled}
 use Rattle.cd_evaluation.specs.Lists.{characters_of}
 use Rattle.cd_evaluation.specs.Operations.{truth_of, plus, operate, inverted, flattened, if_spelled, int_of, string_of, word_outcome, dropped, selected, xml}
 use Rattle.cd_safety.specs.ByParts.{IsByParts, OutcomeOf}
+use Rattle.cd_safety.proofs.ExtremesGood.{extreme_good}
 use Rattle.cd_safety.proofs.IntegersGood.{computed_good, divided_good, on_integers_good, digits_are, spelled_is}
 use Rattle.cd_safety.proofs.RecordsGood.{merged_good, without_good, at_good, OneOf}
 use Rattle.cd_safety.proofs.SequencesGood.{text_good, items_of, ItemsOf, joined_good, all_joined_good}
@@ -80,6 +81,8 @@ module _ (Of : Thing → Type 0) (OfFields : Fields → Type 0) (by_parts : IsBy
   word_good word.Flatten v is = flattened_good (items v) (items_of Of OfFields by_parts v is)
   word_good word.IntOf v is = int_of_good (characters_of v)
   word_good word.StringOf v is = string_of_good v is
+  word_good word.MinOf v is = extreme_good Of OfFields by_parts (λ n m. int_lt n m) (items v) (items_of Of OfFields by_parts v is)
+  word_good word.MaxOf v is = extreme_good Of OfFields by_parts (λ n m. int_lt m n) (items v) (items_of Of OfFields by_parts v is)
   word_good word.Raise v is = is
 
   pub dropped_good : (label : Name) (v : Thing) → Of v → OutcomeOf Of (dropped label v)

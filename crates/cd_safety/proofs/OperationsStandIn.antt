@@ -20,6 +20,7 @@ use Rattle.cd_evaluation.specs.Operations.{truth_of, plus, operate, inverted, fl
 use Rattle.cd_safety.specs.StandsIn as stand
 use Rattle.cd_safety.specs.StandsIn.{StandsIn}
 use Rattle.cd_safety.specs.OutcomesStandIn.{OneStandsIn, ItemsStandIn, OutcomeStandsIn}
+use Rattle.cd_safety.proofs.ExtremesStandIn.{extreme_stands}
 use Rattle.cd_safety.proofs.RecordsStandIn.{merged_stand, without_stands, at_stands}
 use Rattle.cd_safety.proofs.SequencesStandIn.{text_stands, items_stand, joined_stands, all_joined_stands, characters_same}
 
@@ -117,6 +118,10 @@ module _ (graph : Graph) (interfaces : Interfaces) where
   word_stands word.Flatten v e stands = flattened_stands (items v) (items e) (items_stand graph interfaces v e stands)
   word_stands word.IntOf v e stands = rw (characters_same graph interfaces v e stands) (int_of_stands (characters_of e))
   word_stands word.StringOf v e stands = string_of_stands v e stands
+  word_stands word.MinOf v e stands =
+      extreme_stands graph interfaces (λ n m. int_lt n m) (items v) (items e) (items_stand graph interfaces v e stands)
+  word_stands word.MaxOf v e stands =
+      extreme_stands graph interfaces (λ n m. int_lt m n) (items v) (items e) (items_stand graph interfaces v e stands)
   word_stands word.Raise v e stands = stands
 
   pub dropped_stands : (label : Name) (v e : Thing) → Stands v e → BothEnd (dropped label v) (dropped label e)

@@ -18,6 +18,7 @@ use Rattle.cd_evaluation.specs.Operations.{plus, operate, word_outcome}
 use Rattle.cd_safety.specs.ByParts.{OutcomeOf}
 use Rattle.cd_safety.specs.Gives.{Gives}
 use Rattle.cd_safety.proofs.BuiltInElements.{integer_here}
+use Rattle.cd_safety.proofs.ExtremesGiven.{extreme_given}
 use Rattle.cd_safety.proofs.IntegersGiven.{truth_given, all_integers, on_both, resulting, quotient, inverted_given, int_of_given, string_of_given}
 use Rattle.cd_safety.proofs.OperationsGood.{operate_good, word_good}
 use Rattle.cd_safety.proofs.RecordsGiven.{merged_given}
@@ -84,4 +85,6 @@ word_given operand result d d_is d_in word.Flatten rule =
     (word_good IsElement AreFields elements_by_parts word.Flatten d d_is) (flattened_given (In rule.0) d (rule.2 d d_is d_in))
 word_given operand result d d_is d_in word.IntOf rule = int_of_given result operand d d_is d_in rule.0 rule.1
 word_given operand result d d_is d_in word.StringOf rule = string_of_given result operand d d_is d_in rule.0 rule.1
+word_given operand result d d_is d_in word.MinOf rule = extreme_given result operand d d_is d_in rule.0 rule.1 (λ n m. int_lt n m)
+word_given operand result d d_is d_in word.MaxOf rule = extreme_given result operand d d_is d_in rule.0 rule.1 (λ n m. int_lt m n)
 word_given operand result d d_is d_in word.Raise rule = rule d d_is d_in

@@ -8,13 +8,22 @@ use Rattle.cd_syntax.specs.WellMadePattern.{IsWellMadeConstant, IsWellMadePatter
 use Rattle.cd_syntax.specs.WellMadePattern.{AreWellMadePatternSigns, AreWellMadePatternFields}
 use Rattle.cd_syntax.specs.WellMadePattern.{IsWellMadePatternRegular, IsWellMadePatternRegularKind, AreWellMadePatternRegulars}
 use Rattle.cd_model.specs.Scope.{Scope}
+use Rattle.cd_model.specs.Written.{Written}
+use Rattle.cd_matching.specs.Pattern as pattern
 use Rattle.cd_matching.specs.Pattern.{OfType}
-use Rattle.cd_matching.specs.WrittenPattern.{in_scope, kind_has, pattern_of, kind_pattern, tuple_pattern, patterns, signed_patterns}
+use Rattle.cd_matching.specs.WrittenPattern.{in_scope, kind_has, pattern_of, kind_pattern, tuple_pattern, patterns, signed_patterns, with_rest}
 use Rattle.cd_matching.specs.WrittenPattern.{field_patterns, regular_pattern, regular_kind_pattern, regular_patterns}
 use Rattle.cd_safety.specs.PatternConstants.{EachConstant, EachOfAll, EachOfFields, EachOfRegular, EachOfRegulars}
 
 -- a fact that follows for each well made constant
 module _ (Fact : Constant → Type 0) (follows : (is : Constant) → IsWellMadeConstant is → Fact is) (scope : Scope) where
+  -- a rest has no constant
+  constants_with_rest : (fields : Fields) (rest : type.Rest) (are : pattern.Fields Written) → EachOfFields Fact are
+      → EachConstant Fact (with_rest scope fields rest are)
+  constants_with_rest fields type.Closed are each = each
+  constants_with_rest fields type.Open are each = each
+  constants_with_rest fields (type.Typed is) are each = (each, (tt, tt))
+
   mutual
     pub constants_of_pattern : (is : Tree) → IsWellMadePattern is → EachConstant Fact (pattern_of scope is)
     constants_of_pattern (tree span kind) made = by_test (kind_has kind) (constants_of_kind kind made)
@@ -31,7 +40,8 @@ module _ (Fact : Constant → Type 0) (follows : (is : Constant) → IsWellMadeC
     constants_of_kind (type.Union trees) made = constants_of_all trees made
     constants_of_kind (type.Meet first signs) made = (constants_of_pattern first made.0, constants_of_signs signs made.1)
     constants_of_kind (type.Sequence is) made = constants_of_regular is made
-    constants_of_kind (type.Record fields more) made = constants_of_fields fields made
+    constants_of_kind (type.Record fields rest) made =
+        constants_with_rest fields rest (field_patterns scope fields) (constants_of_fields fields made.0)
     constants_of_kind (type.Xml tag attributes content) made =
         (constants_of_pattern tag made.0, constants_of_pattern attributes made.1, constants_of_pattern content made.2)
     constants_of_kind _ made = tt

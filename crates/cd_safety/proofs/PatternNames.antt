@@ -1,5 +1,5 @@
 -- Names that a pattern has captured, before others: each that has a type means a value of the type.
-use Rattle.std.proofs.Common.{◌≡◌, Bool, true, false, [], ◌∷◌, ◌++◌, Option, Some, None, if◌then◌else◌, refl, sym, ap, subst, ◌∙◌, bytes_eq}
+use Rattle.std.proofs.Common.{◌≡◌, ◌++◌, Option, Some, None, sym, ap, subst, ◌∙◌}
 use Rattle.cd_syntax.specs.Name.{Name}
 use Rattle.cd_model.specs.Interfaces.{Interfaces}
 use Rattle.cd_model.specs.Thing.{Thing}

@@ -1,8 +1,7 @@
 -- A kind of expression is sound that is in range and has no fault of its labels.
 use Rattle.cd_syntax.specs.declared.tokens.Span.{Span}
 use Rattle.cd_syntax.specs.TypeTree.{Declarations}
-use Rattle.cd_program.specs.Expr.{expr, Kind, Constant, Variable, Tuple, Sequence, Record, Xml, Function, Apply, Match, Try, Map}
-use Rattle.cd_program.specs.Expr.{Transform, Let, If, Chain, Call}
+use Rattle.cd_program.specs.Expr.{expr, Kind, Constant, Sequence, Record}
 use Rattle.cd_program.specs.WellMade.{IsWellMadeExprKind}
 use Rattle.cd_resolve.specs.declared.fault.NameFault.TheVariants.{Twice}
 use Rattle.cd_names.specs.ProgramFaults as faults

@@ -25,6 +25,8 @@ word_gives_more word.Flatten operand result wider within has =
     (has.0, has.1, has.2, through _ result wider has.3 within)
 word_gives_more word.IntOf operand result wider within has = (has.0, through _ result wider has.1 within)
 word_gives_more word.StringOf operand result wider within has = (has.0, through _ result wider has.1 within)
+word_gives_more word.MinOf operand result wider within has = (has.0, through _ result wider has.1 within)
+word_gives_more word.MaxOf operand result wider within has = (has.0, through _ result wider has.1 within)
 word_gives_more word.Raise operand result wider within has = has
 
 module _ (scope : Scope) where

@@ -1,15 +1,17 @@
 -- What operators need of the types of their operands, and what a type of their results holds.
-use Rattle.std.specs.Prelude.{◌⊎◌, pos, ◌+ℤ◌, ◌-ℤ◌, Bool, true, false, codes}
+use Rattle.std.specs.Prelude.{◌≡◌, ◌≢◌, ◌⊎◌, pos, ◌+ℤ◌, ◌-ℤ◌, Bool, true, false, codes, List, [], Some}
+use Rattle.cd_model.specs.AllOf.{AllOf}
 use Rattle.cd_model.specs.BuiltIns.{INT, BOOL, STRING, RECORD, DATA}
 use Rattle.cd_model.specs.Thing.{Thing, Integer, Atom}
 use Rattle.cd_program.specs.declared.operator.Op.{Op}
 use Rattle.cd_program.specs.declared.operator.Op.TheVariants as op
 use Rattle.cd_program.specs.declared.operator.BuiltIn.{BuiltIn as Word}
 use Rattle.cd_program.specs.declared.operator.BuiltIn.TheVariants as word
+use Rattle.cd_matching.specs.Sequences.{items}
 use Rattle.cd_meaning.specs.Sets.{Set, ◌⊆◌}
 use Rattle.cd_meaning.specs.Integers.{IsResultOf}
 use Rattle.cd_meaning.specs.Records.{IsMergeOf}
-use Rattle.cd_meaning.specs.Sequences.{IsSequence, IsListOf, IsJoinOf}
+use Rattle.cd_meaning.specs.Sequences.{IsSequence, IsListOf, IsItemOf, IsJoinOf}
 use Rattle.cd_typing.specs.Typ.{Typ, In, IsType, BuiltIn}
 
 abbrev pub truth : Bool → Thing
@@ -65,6 +67,13 @@ Operates op.Times first second result = AreIntegers first second × (BuiltIn INT
 Operates op.Div first second result = IsQuotient first second result
 Operates op.Mod first second result = IsQuotient first second result
 
+-- `min_of` and `max_of` give items of sequences of one integer at least
+abbrev pub IsNumbers : Set
+IsNumbers d = (ds : List Thing) × (items d ≡ Some ds) × AllOf (BuiltIn INT) ds × (ds ≢ [])
+
+abbrev pub ExtremeGives : (operand result : Set) → Type 0
+ExtremeGives operand result = (operand ⊆ IsNumbers) × (IsItemOf operand ⊆ result)
+
 -- the words before an operand
 abbrev pub WordGives : Word → (operand result : Set) → Type 0
 WordGives word.Not operand result = (operand ⊆ BuiltIn BOOL) × (BuiltIn BOOL ⊆ result)
@@ -72,4 +81,6 @@ WordGives word.Flatten operand result = (item : Typ) × IsType item
     × (operand ⊆ IsListOf (IsListOf (In item))) × (IsListOf (In item) ⊆ result)
 WordGives word.IntOf operand result = (operand ⊆ BuiltIn STRING) × (BuiltIn INT ⊆ result)
 WordGives word.StringOf operand result = (operand ⊆ BuiltIn INT) × (BuiltIn STRING ⊆ result)
+WordGives word.MinOf operand result = ExtremeGives operand result
+WordGives word.MaxOf operand result = ExtremeGives operand result
 WordGives word.Raise operand result = operand ⊆ BuiltIn DATA

@@ -39,6 +39,8 @@ pub enum Rule {
     Comparison,
     /// A text is needed.
     Text,
+    /// A sequence of integers is needed, of one at least.
+    Numbers,
     /// What `main` gives is data.
     MainResult,
 }
@@ -66,6 +68,7 @@ impl Rule {
             Rule::Field => "field",
             Rule::Comparison => "comparison",
             Rule::Text => "text",
+            Rule::Numbers => "numbers",
             Rule::MainResult => "main result",
         }
     }
