@@ -1,5 +1,5 @@
--- The places that a part holds, in the order of the text: those of functions and of the patterns of branches. A token
--- and a tree have one, where they begin. What places an expression and a function have is any walk over them.
+-- The places that a part holds: those of functions and of the patterns of branches. A token and a tree have one, where
+-- they begin. What places an expression and a function have is any walk over them.
 use Rattle.std.proofs.Common.{ℕ, List, [], ◌∷◌, ◌++◌, Option, Some, None}
 use Rattle.std.specs.Prelude.{flat_map}
 use Rattle.cd_syntax.specs.declared.tokens.Span.{Span}
@@ -10,13 +10,20 @@ use Rattle.cd_program.specs.declared.operator.BuiltIn.{BuiltIn}
 use Rattle.cd_program.specs.declared.operator.Form.{Form}
 use Rattle.cd_program.specs.Expr as exprs
 use Rattle.cd_program.specs.Expr.{Expr, expr, Item, Tail, Branch, Signature, FunctionTree, function, of_form}
+use Rattle.cd_query.specs.Core.{Step, ToField, ToChild, ToAttribute, Source}
 use Rattle.cd_placed.specs.Patterns.{start_of}
 use Rattle.cd_grammar.specs.Parts as parts
-use Rattle.cd_grammar.specs.Parts.{Part, AToken, ATree, AnExpr, Exprs, AChain, Items, ExprFields, Branches, AFunction}
-use Rattle.cd_grammar.specs.Parts.{AProgram}
-use Rattle.cd_placed.proofs.Rising.{Follows}
+use Rattle.cd_grammar.specs.Parts.{Part, AToken, ATree, AnExpr, Exprs, AChain, Items, ExprFields, Branches, Steps}
+use Rattle.cd_grammar.specs.Parts.{Sources, AFunction, AProgram}
+use Rattle.cd_placed.proofs.Once.{Follows}
 
--- places of items, fields, operators and branches, by those of expressions
+-- places of the steps of a path: a sign and a label at which a pattern begins
+abbrev pub of_step : Step → List ℕ
+of_step (ToField word label) = []
+of_step (ToChild sign word label) = sign.from ∷ word.from ∷ []
+of_step (ToAttribute sign word label) = sign.from ∷ []
+
+-- places of items, fields, operators, branches, sources and conditions, by those of expressions
 module _ (E : Expr → List ℕ) where
   abbrev pub of_item : Item → List ℕ
   of_item (exprs.One is) = E is
@@ -34,7 +41,17 @@ module _ (E : Expr → List ℕ) where
   abbrev pub of_branch : Branch → List ℕ
   of_branch one = start_of one.pattern ∷ E one.body
 
--- a walk over expressions and functions finds no other places than their parts have, in their order
+  abbrev pub of_source : Source → List ℕ
+  of_source one = start_of one.pattern ∷ E one.value
+
+  abbrev pub of_condition : Option Expr → List ℕ
+  of_condition None = []
+  of_condition (Some is) = E is
+
+  abbrev pub in_sources : List Source × Option Expr → List ℕ
+  in_sources all = flat_map of_source all.0 ++ of_condition all.1
+
+-- a walk over expressions and functions finds no place more often than their parts have it
 pub record IsWalk (E : Expr → List ℕ) (F : FunctionTree → List ℕ) : Type 0 where
   pub constant : (here : Span) (is : AConstant) → Follows (E (expr here (exprs.Constant is))) []
   pub variable : (here : Span) (name : Name) → Follows (E (expr here (exprs.Variable name))) []
@@ -76,6 +93,8 @@ module _ (E : Expr → List ℕ) (F : FunctionTree → List ℕ) where
   held (Items all) = flat_map (of_item E) all
   held (ExprFields all) = flat_map (of_field E) all
   held (Branches all) = flat_map (of_branch E) all
+  held (Steps all) = flat_map of_step all
+  held (Sources all condition) = in_sources E (all, condition)
   held (AFunction is) = F is
   held (AProgram types functions) = flat_map F functions
   held _ = []
@@ -121,6 +140,14 @@ module _ (E : Expr → List ℕ) (F : FunctionTree → List ℕ) where
   pub branches_read : (part : Part) → IsRead (flat_map (of_branch E)) (parts.branches_in part) (held part)
   branches_read (Branches all) = found all
   branches_read _ = missing _
+
+  pub steps_read : (part : Part) → IsRead (flat_map of_step) (parts.steps_in part) (held part)
+  steps_read (Steps all) = found all
+  steps_read _ = missing _
+
+  pub sources_read : (part : Part) → IsRead (in_sources E) (parts.sources_in part) (held part)
+  sources_read (Sources all condition) = found (all, condition)
+  sources_read _ = missing _
 
   pub function_read : (part : Part) → IsRead F (parts.function_in part) (held part)
   function_read (AFunction one) = found one

@@ -1,5 +1,5 @@
--- What a make makes of parts holds no other places than they do, in their order; or it begins where they do.
-use Rattle.std.proofs.Common.{ℕ, List, [], ◌∷◌, ◌++◌, Some}
+-- What a make makes of parts holds no place more often than they do; or it begins where they do.
+use Rattle.std.proofs.Common.{ℕ, List, [], ◌∷◌, ◌++◌, append_assoc, Some}
 use Rattle.std.specs.Prelude.{flat_map}
 use Rattle.cd_syntax.specs.declared.tokens.Span.{Span}
 use Rattle.cd_syntax.specs.declared.tokens.Token.{Token}
@@ -15,14 +15,16 @@ use Rattle.cd_grammar.specs.declared.make.Five.TheVariants as five
 use Rattle.cd_grammar.specs.declared.make.Six.{Six}
 use Rattle.cd_grammar.specs.declared.make.Six.TheVariants as six
 use Rattle.cd_grammar.specs.Parts.{Part, token_in, tree_in, constant_in, signatures_in, branches_in, expr_in}
+use Rattle.cd_grammar.specs.Parts.{sources_in}
 use Rattle.cd_grammar.specs.Actions.{name_in}
 use Rattle.cd_grammar.specs.ProgramActions.{named, no_attributes_expr}
 use Rattle.cd_grammar.specs.Makes.{made, made_of_four, made_of_five, made_of_six}
-use Rattle.cd_placed.proofs.Rising.{Follows, itself, through, none, both, later}
-use Rattle.cd_placed.proofs.HeldPlaces.{IsWalk, of_branch, held, all_held, token_read, tree_read, expr_read}
-use Rattle.cd_placed.proofs.HeldPlaces.{branches_read}
-use Rattle.cd_placed.proofs.KeptPlaces.{Keeps, follows, plain, no_place, start, behind, plain_two, plain_three}
-use Rattle.cd_placed.proofs.KeptPlaces.{two_follow, three_follow, four_follow}
+use Rattle.cd_placed.proofs.Once.{Follows, itself, through, same_places, none, both, later}
+use Rattle.cd_placed.proofs.HeldPlaces.{IsWalk, of_branch, of_source, of_condition, in_sources, held, all_held}
+use Rattle.cd_placed.proofs.HeldPlaces.{token_read, tree_read, expr_read, branches_read, sources_read}
+use Rattle.cd_placed.proofs.KeptPlaces.{Keeps, follows, plain, no_place, start, behind, closed, plain_two}
+use Rattle.cd_placed.proofs.KeptPlaces.{plain_three, two_follow, three_follow, four_follow}
+use Rattle.cd_placed.proofs.QueryPlaces.{select_follows}
 use Rattle.cd_placed.proofs.KeptByOnes.{one_keeps}
 use Rattle.cd_placed.proofs.KeptByTwos.{two_keep}
 use Rattle.cd_placed.proofs.KeptByThrees.{three_keep}
@@ -81,6 +83,13 @@ module _ (E : Expr → List ℕ) (F : FunctionTree → List ℕ) (walk : IsWalk 
       (λ tag close content. no_attributes_follow here close.span tag content) (expr_in b) (H b) (expr_read E F b)
       (token_in c) (H c) (token_read E F c) (expr_in d) (H d) (expr_read E F d)))
 
+  -- the first, the third and the last of five
+  of_five_lists : (us vs ws xs ys : List ℕ)
+      → Follows (us ++ (ws ++ (ys ++ []))) (us ++ (vs ++ (ws ++ (xs ++ (ys ++ [])))))
+  of_five_lists us vs ws xs ys =
+      behind us (ws ++ (ys ++ [])) (vs ++ (ws ++ (xs ++ (ys ++ []))))
+      (later vs (ws ++ (ys ++ [])) (ws ++ (xs ++ (ys ++ []))) (second_of ws xs (ys ++ [])))
+
   pub five_keep : (m : Five) (here : Span) (a b c d e : Part)
       → Keeps here.from (H a ++ (H b ++ (H c ++ (H d ++ (H e ++ []))))) (H (made_of_five m here a b c d e))
   five_keep five.XmlWith here a b c d e =
@@ -100,6 +109,21 @@ module _ (E : Expr → List ℕ) (F : FunctionTree → List ℕ) (walk : IsWalk 
       (expr_in c) (H c) (expr_read E F c) (expr_in e) (H e) (expr_read E F e))
       (later (H a) (H b ++ (H c ++ (H e ++ []))) (H b ++ (H c ++ (H d ++ (H e ++ []))))
       (behind (H b) (H c ++ (H e ++ [])) (H c ++ (H d ++ (H e ++ []))) (second_of (H c) (H d) (H e ++ [])))))
+  five_keep five.SourceWhere here a b c d e =
+      follows _ _ _
+      (through _ _ _
+      (three_follow E F (λ takes. start_of takes ∷ []) E E _
+      (λ takes one test. both (start_of takes ∷ E one ++ []) (E test) (start_of takes ∷ E one) (E test)
+      (closed (start_of takes ∷ E one)) (itself (E test))) (tree_in a) (H a) (tree_read E F a) (expr_in c) (H c)
+      (expr_read E F c) (expr_in e) (H e) (expr_read E F e)) (of_five_lists (H a) (H b) (H c) (H d) (H e)))
+  five_keep five.BeforeSources here a b c d e =
+      follows _ _ _
+      (through _ _ _
+      (three_follow E F (λ takes. start_of takes ∷ []) E (in_sources E) _
+      (λ takes one all. same_places _ _
+      (append_assoc (start_of takes ∷ E one) (flat_map (of_source E) all.0) (of_condition E all.1))) (tree_in a) (H a)
+      (tree_read E F a) (expr_in c) (H c) (expr_read E F c) (sources_in e) (H e) (sources_read E F e))
+      (of_five_lists (H a) (H b) (H c) (H d) (H e)))
 
   -- the second, the fourth and the last of six
   of_six_lists : (us vs ws xs ys zs : List ℕ)
@@ -108,6 +132,15 @@ module _ (E : Expr → List ℕ) (F : FunctionTree → List ℕ) (walk : IsWalk 
       later us (vs ++ (xs ++ (zs ++ []))) (vs ++ (ws ++ (xs ++ (ys ++ (zs ++ [])))))
       (behind vs (xs ++ (zs ++ [])) (ws ++ (xs ++ (ys ++ (zs ++ []))))
       (later ws (xs ++ (zs ++ [])) (xs ++ (ys ++ (zs ++ []))) (second_of xs ys (zs ++ []))))
+
+  -- the third and the fifth of six
+  third_and_fifth : (us vs ws xs ys zs : List ℕ)
+      → Follows (ws ++ (ys ++ [])) (us ++ (vs ++ (ws ++ (xs ++ (ys ++ (zs ++ []))))))
+  third_and_fifth us vs ws xs ys zs =
+      later us (ws ++ (ys ++ [])) (vs ++ (ws ++ (xs ++ (ys ++ (zs ++ [])))))
+      (later vs (ws ++ (ys ++ [])) (ws ++ (xs ++ (ys ++ (zs ++ []))))
+      (behind ws (ys ++ []) (xs ++ (ys ++ (zs ++ [])))
+      (later xs (ys ++ []) (ys ++ (zs ++ [])) (behind ys [] (zs ++ []) (none (zs ++ []))))))
 
   pub six_keep : (m : Six) (here : Span) (a b c d e f : Part)
       → Keeps here.from (H a ++ (H b ++ (H c ++ (H d ++ (H e ++ (H f ++ [])))))) (H (made_of_six m here a b c d e f))
@@ -123,6 +156,12 @@ module _ (E : Expr → List ℕ) (F : FunctionTree → List ℕ) (walk : IsWalk 
       (three_follow E F E E E _ (λ test one other. walk.if_else here test one other) (expr_in b) (H b)
       (expr_read E F b) (expr_in d) (H d) (expr_read E F d) (expr_in f) (H f) (expr_read E F f))
       (of_six_lists (H a) (H b) (H c) (H d) (H e) (H f)))
+  six_keep six.Selecting here a b c d e f =
+      follows _ _ _
+      (through _ _ _
+      (two_follow E F E (in_sources E) _ (λ head all. select_follows E F walk here all.0 all.1 head) (expr_in c) (H c)
+      (expr_read E F c) (sources_in e) (H e) (sources_read E F e))
+      (third_and_fifth (H a) (H b) (H c) (H d) (H e) (H f)))
 
   -- of as many parts as it wants, or nothing of use
   pub made_keeps : (m : Make) (here : Span) (parts : List Part)

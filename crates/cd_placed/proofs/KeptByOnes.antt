@@ -1,4 +1,4 @@
--- What is made of one part holds no other places than it does.
+-- What is made of one part holds no place more often than it does.
 use Rattle.std.proofs.Common.{ℕ, List, [], ◌++◌}
 use Rattle.std.specs.Prelude.{flat_map}
 use Rattle.cd_syntax.specs.declared.tokens.Span.{Span}
@@ -10,7 +10,7 @@ use Rattle.cd_grammar.specs.Parts.{Part, trees_in, signs_in, token_in, tree_in, 
 use Rattle.cd_grammar.specs.Parts.{function_in, chain_in, exprs_in, expr_fields_in, expr_in}
 use Rattle.cd_grammar.specs.Actions.{constant_of, characters_in, name_in}
 use Rattle.cd_grammar.specs.Makes.{made_of_one}
-use Rattle.cd_placed.proofs.Rising.{first, of_one}
+use Rattle.cd_placed.proofs.Once.{first, of_one}
 use Rattle.cd_placed.proofs.HeldPlaces.{IsWalk, of_field, held, in_chain, expr_read, exprs_read, chain_read}
 use Rattle.cd_placed.proofs.HeldPlaces.{fields_read, function_read}
 use Rattle.cd_placed.proofs.KeptPlaces.{Keeps, follows, IsPlain, plain, no_place, start, of_none, between_plain}

@@ -1,4 +1,4 @@
--- What is made of three parts holds no other places than they do.
+-- What is made of three parts holds no place more often than they do.
 use Rattle.std.proofs.Common.{ℕ, List, [], ◌∷◌, ◌++◌}
 use Rattle.std.specs.Prelude.{flat_map}
 use Rattle.cd_syntax.specs.declared.tokens.Span.{Span}
@@ -8,13 +8,13 @@ use Rattle.cd_grammar.specs.declared.make.Three.{Three}
 use Rattle.cd_grammar.specs.declared.make.Three.TheVariants as three
 use Rattle.cd_grammar.specs.Parts.{Part, token_in, tree_in, trees_in, signs_in, fields_in, names_in, regular_in}
 use Rattle.cd_grammar.specs.Parts.{regulars_in, signatures_in, branches_in, expr_in, exprs_in, chain_in, items_in}
-use Rattle.cd_grammar.specs.Parts.{expr_fields_in}
+use Rattle.cd_grammar.specs.Parts.{expr_fields_in, steps_in}
 use Rattle.cd_grammar.specs.Actions.{characters_in}
 use Rattle.cd_grammar.specs.Makes.{made_of_three}
-use Rattle.cd_placed.proofs.Rising.{Follows, itself, through, none, first, later, of_two_lists, of_one_more}
-use Rattle.cd_placed.proofs.HeldPlaces.{IsWalk, of_item, of_field, of_branch, held, in_chain, token_read}
+use Rattle.cd_placed.proofs.Once.{Follows, itself, through, none, first, next, later, of_two_lists, of_one_more}
+use Rattle.cd_placed.proofs.HeldPlaces.{IsWalk, of_step, of_item, of_field, of_branch, held, in_chain, token_read}
 use Rattle.cd_placed.proofs.HeldPlaces.{tree_read, expr_read, exprs_read, chain_read, items_read, fields_read}
-use Rattle.cd_placed.proofs.HeldPlaces.{branches_read, signatures_read}
+use Rattle.cd_placed.proofs.HeldPlaces.{branches_read, signatures_read, steps_read}
 use Rattle.cd_placed.proofs.KeptPlaces.{Keeps, follows, IsPlain, plain, no_place, start, between_plain, behind, closed}
 use Rattle.cd_placed.proofs.KeptPlaces.{more_in_chain, plain_one, plain_two, one_follows, two_follow, three_follow}
 
@@ -77,7 +77,9 @@ module _ (E : Expr → List ℕ) (F : FunctionTree → List ℕ) (walk : IsWalk 
   three_keep three.SeparateFields here a b c =
       plainly three.SeparateFields here a b c (plain_two E F _ (fields_in a) (fields_in c) _ (λ all rest. no_place _))
   three_keep three.SeparateOthers here a b c =
-      plainly three.SeparateOthers here a b c (plain_one E F _ (fields_in a) _ (λ all. no_place _))
+      plainly three.SeparateOthers here a b c (plain_two E F _ (fields_in a) (fields_in c) _ (λ all rest. no_place _))
+  three_keep three.TypedOthers here a b c =
+      plainly three.TypedOthers here a b c (plain_one E F _ (tree_in c) _ (λ one. no_place _))
   three_keep three.Record here a b c =
       plainly three.Record here a b c (plain_one E F _ (fields_in b) _ (λ all. start _))
   three_keep three.Sequence here a b c =
@@ -135,17 +137,29 @@ module _ (E : Expr → List ℕ) (F : FunctionTree → List ℕ) (walk : IsWalk 
       (λ all word. through _ _ _ (more_in_chain E F all.0 all.1 _)
       (behind (in_chain E F all) [] (word.span.from ∷ []) (none _))) (chain_in a) (H a) (chain_read E F a) (token_in c)
       (H c) (token_read E F c))
-  three_keep three.FirstSelect here a b c =
-      outside three.FirstSelect here a b c
-      (two_follow E F E (λ word. word.span.from ∷ []) _
-      (λ one word. behind (E one) [] (word.span.from ∷ []) (none _)) (expr_in a) (H a) (expr_read E F a) (token_in c)
-      (H c) (token_read E F c))
-  three_keep three.NextSelect here a b c =
-      outside three.NextSelect here a b c
-      (two_follow E F (in_chain E F) (λ word. word.span.from ∷ []) _
-      (λ all word. through _ _ _ (more_in_chain E F all.0 all.1 _)
-      (behind (in_chain E F all) [] (word.span.from ∷ []) (none _))) (chain_in a) (H a) (chain_read E F a) (token_in c)
-      (H c) (token_read E F c))
+  -- steps before others, and a source
+  three_keep three.BeforeFieldStep here a b c =
+      follows _ _ _
+      (later (H a) (H (made_of_three three.BeforeFieldStep here a b c)) (H b ++ (H c ++ []))
+      (two_follow E F (λ word. word.span.from ∷ []) (flat_map of_step) _
+      (λ word all. later (word.span.from ∷ []) (flat_map of_step all) (flat_map of_step all)
+      (itself (flat_map of_step all))) (token_in b) (H b) (token_read E F b) (steps_in c) (H c) (steps_read E F c)))
+  three_keep three.BeforeChildStep here a b c =
+      follows _ _ _
+      (three_follow E F (λ sign. sign.span.from ∷ []) (λ word. word.span.from ∷ []) (flat_map of_step) _
+      (λ sign word all. itself _) (token_in a) (H a) (token_read E F a) (token_in b) (H b) (token_read E F b)
+      (steps_in c) (H c) (steps_read E F c))
+  three_keep three.BeforeAttributeStep here a b c =
+      follows _ _ _
+      (three_follow E F (λ sign. sign.span.from ∷ []) (λ word. word.span.from ∷ []) (flat_map of_step) _
+      (λ sign word all. next sign.span.from (flat_map of_step all) (word.span.from ∷ flat_map of_step all)
+      (later (word.span.from ∷ []) (flat_map of_step all) (flat_map of_step all) (itself (flat_map of_step all))))
+      (token_in a) (H a) (token_read E F a) (token_in b) (H b) (token_read E F b) (steps_in c) (H c) (steps_read E F c))
+  three_keep three.Source here a b c =
+      outside three.Source here a b c
+      (two_follow E F (λ takes. start_of takes ∷ []) E _
+      (λ takes one. through _ _ _ (closed (start_of takes ∷ E one ++ [])) (closed (start_of takes ∷ E one))) (tree_in a)
+      (H a) (tree_read E F a) (expr_in c) (H c) (expr_read E F c))
   -- expressions
   three_keep three.TwoExprs here a b c =
       outside three.TwoExprs here a b c

@@ -1,5 +1,5 @@
--- What is made of two parts holds no other places than they do.
-use Rattle.std.proofs.Common.{ℕ, List, [], ◌++◌}
+-- What is made of two parts holds no place more often than they do.
+use Rattle.std.proofs.Common.{ℕ, List, [], ◌∷◌, ◌++◌}
 use Rattle.std.specs.Prelude.{flat_map}
 use Rattle.cd_syntax.specs.declared.tokens.Span.{Span}
 use Rattle.cd_program.specs.Expr.{Expr, FunctionTree}
@@ -7,13 +7,15 @@ use Rattle.cd_grammar.specs.declared.make.Two.{Two}
 use Rattle.cd_grammar.specs.declared.make.Two.TheVariants as two
 use Rattle.cd_grammar.specs.Parts.{Part, token_in, tree_in, fields_in, names_in, regular_in, regulars_in, mark_in}
 use Rattle.cd_grammar.specs.Parts.{program_in, function_in, branches_in, expr_in, exprs_in, items_in, expr_fields_in}
+use Rattle.cd_grammar.specs.Parts.{steps_in}
 use Rattle.cd_grammar.specs.Makes.{made_of_two}
-use Rattle.cd_placed.proofs.Rising.{Follows, first, later, of_two_lists, of_one_more}
-use Rattle.cd_placed.proofs.HeldPlaces.{IsWalk, of_item, of_field, of_branch, held, in_program, expr_read, exprs_read}
-use Rattle.cd_placed.proofs.HeldPlaces.{items_read, fields_read, branches_read, function_read, program_read}
-use Rattle.cd_placed.proofs.HeldPlaces.{names_read}
+use Rattle.cd_placed.proofs.Once.{Follows, itself, first, later, of_two_lists, of_one_more}
+use Rattle.cd_placed.proofs.HeldPlaces.{IsWalk, of_step, of_item, of_field, of_branch, held, in_program, token_read}
+use Rattle.cd_placed.proofs.HeldPlaces.{expr_read, exprs_read, items_read, fields_read, branches_read, function_read}
+use Rattle.cd_placed.proofs.HeldPlaces.{program_read, names_read, steps_read}
 use Rattle.cd_placed.proofs.KeptPlaces.{Keeps, follows, IsPlain, plain, no_place, start, of_none, behind, closed}
 use Rattle.cd_placed.proofs.KeptPlaces.{plain_one, plain_two, one_follows, two_follow}
+use Rattle.cd_placed.proofs.QueryPlaces.{path_follows}
 
 module _ (E : Expr → List ℕ) (F : FunctionTree → List ℕ) (walk : IsWalk E F) where
   abbrev H : Part → List ℕ
@@ -35,7 +37,7 @@ module _ (E : Expr → List ℕ) (F : FunctionTree → List ℕ) (walk : IsWalk 
   two_keep two.HalfInterval here a b =
       two_plain two.HalfInterval here a b (plain_two E F _ (token_in a) (token_in b) _ (λ low high. start _))
   two_keep two.AndOthers here a b =
-      two_plain two.AndOthers here a b (plain_one E F _ (fields_in a) _ (λ all. no_place _))
+      two_plain two.AndOthers here a b (plain_two E F _ (fields_in a) (fields_in b) _ (λ all rest. no_place _))
   two_keep two.NextFields here a b =
       two_plain two.NextFields here a b (plain_two E F _ (fields_in a) (fields_in b) _ (λ all rest. no_place _))
   two_keep two.NoFields here a b = two_plain two.NoFields here a b (start _)
@@ -95,3 +97,19 @@ module _ (E : Expr → List ℕ) (F : FunctionTree → List ℕ) (walk : IsWalk 
       (two_follow E F (flat_map (of_field E)) (flat_map (of_field E)) _
       (λ all rest. of_two_lists (of_field E) all rest) (expr_fields_in a) (H a) (fields_read E F a) (expr_fields_in b)
       (H b) (fields_read E F b))
+  -- paths and their steps
+  two_keep two.Path here a b =
+      follows _ _ _
+      (two_follow E F E (flat_map of_step) _ (λ one all. path_follows E F walk here one all) (expr_in a) (H a)
+      (expr_read E F a) (steps_in b) (H b) (steps_read E F b))
+  two_keep two.FieldStep here a b =
+      two_plain two.FieldStep here a b (plain_one E F _ (token_in b) _ (λ word. no_place _))
+  two_keep two.ChildStep here a b =
+      follows _ _ _
+      (two_follow E F (λ sign. sign.span.from ∷ []) (λ word. word.span.from ∷ []) _ (λ sign word. itself _) (token_in a)
+      (H a) (token_read E F a) (token_in b) (H b) (token_read E F b))
+  two_keep two.AttributeStep here a b =
+      follows _ _ _
+      (two_follow E F (λ sign. sign.span.from ∷ []) (λ word. word.span.from ∷ []) _
+      (λ sign word. first (sign.span.from ∷ []) (word.span.from ∷ [])) (token_in a) (H a) (token_read E F a)
+      (token_in b) (H b) (token_read E F b))

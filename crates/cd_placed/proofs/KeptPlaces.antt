@@ -1,4 +1,4 @@
--- What is made of parts holds no other places than they do, in their order; or it begins where the first of them does.
+-- What is made of parts holds no place more often than they do; or it begins where the first of them does.
 use Rattle.std.proofs.Common.{arith, sym, ℕ, ◌<◌, ◌≤◌, List, [], ◌∷◌, ◌++◌, Option, Some, None}
 use Rattle.std.proofs.Common.{append-nil, append_assoc}
 use Rattle.std.specs.Prelude.{flat_map}
@@ -6,31 +6,34 @@ use Rattle.cd_program.specs.Expr.{Expr, Tail, FunctionTree}
 use Rattle.cd_syntax.specs.declared.tokens.Span.{Span}
 use Rattle.cd_grammar.specs.Parts.{Part, of_one, of_two, of_three, of_four}
 use Rattle.cd_grammar.specs.Actions.{between}
-use Rattle.cd_placed.proofs.Rising.{Rises, Follows, itself, through, same_places, none, both, later, of_one_more}
+use Rattle.cd_placed.proofs.Once.{Stands, no_places, one_place, carried, Follows, itself, through, same_places, none}
+use Rattle.cd_placed.proofs.Once.{both, later, of_one_more}
 use Rattle.cd_placed.proofs.HeldPlaces.{of_tail, in_chain, held, IsRead, missing, found}
 
--- these places rise between any two that the others rise between, and this one
+-- these places stand once between any two places between which the others do, and this one is
 pub record Keeps (here : ℕ) (given made : List ℕ) : Type 0 where
-  pub rises : (from to : ℕ) → from ≤ here → here < to → Rises from given to → Rises from made to
+  pub stand : (from to : ℕ) → from ≤ here → here < to → Stands from given to → Stands from made to
 
 pub follows : (here : ℕ) (given made : List ℕ) → Follows made given → Keeps here given made
-follows here given made is = record { rises = λ from to low high rises. is.rises from to rises }
+follows here given made is = record { stand = λ from to low high stand. carried made given is from to stand }
 
 -- and whatever the others are
 pub record IsPlain (here : ℕ) (made : List ℕ) : Type 0 where
-  pub rises : (from to : ℕ) → from ≤ here → here < to → Rises from made to
+  pub stand : (from to : ℕ) → from ≤ here → here < to → Stands from made to
 
 pub plain : (here : ℕ) (given made : List ℕ) → IsPlain here made → Keeps here given made
-plain here given made is = record { rises = λ from to low high rises. is.rises from to low high }
+plain here given made is = record { stand = λ from to low high stand. is.stand from to low high }
 
 pub no_place : (here : ℕ) → IsPlain here []
-no_place here = record { rises = λ from to low high. omega (arith, low, high) }
+no_place here = record { stand = λ from to low high. no_places from to (omega (arith, low, high)) }
 
 pub start : (here : ℕ) → IsPlain here (here ∷ [])
-start here = record { rises = λ from to low high. (low, high) }
+start here = record { stand = λ from to low high. one_place from here to low high }
 
 pub of_none : (here : ℕ) (made : List ℕ) → Follows made [] → IsPlain here made
-of_none here made is = record { rises = λ from to low high. is.rises from to (omega (arith, low, high)) }
+of_none here made is = record {
+  stand = λ from to low high. carried made [] is from to (no_places from to (omega (arith, low, high)));
+}
 
 -- a list that ends with none, and more before both
 pub ended : (xs : List ℕ) → Follows xs (xs ++ [])

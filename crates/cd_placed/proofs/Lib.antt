@@ -1,6 +1,7 @@
-mod Rising
+mod Once
 mod HeldPlaces
 mod KeptPlaces
+mod QueryPlaces
 mod KeptByOnes
 mod KeptByTwos
 mod KeptByThrees

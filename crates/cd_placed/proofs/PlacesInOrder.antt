@@ -1,5 +1,5 @@
--- What derives from a symbol begins within its tokens, and the places that it holds rise there, where its tokens stand
--- in order.
+-- What derives from a symbol begins within its tokens, and the places that it holds stand there, each once, where its
+-- tokens stand in order.
 use Rattle.std.proofs.Common.{arith, ◌≡◌, refl, ℕ, ◌<◌, ◌≤◌, Bool, true, false}
 use Rattle.std.proofs.Common.{List, [], ◌∷◌, ◌++◌, Option, Some, None, slice_get}
 use Rattle.cd_program.specs.Expr.{Expr, FunctionTree}
@@ -11,7 +11,7 @@ use Rattle.cd_grammar.specs.Parts.{Part}
 use Rattle.cd_grammar.specs.Rules.{lines}
 use Rattle.cd_grammar.specs.Language.{Entry, To, Read, Later, Placed, value_of, place_of, made_by, build, cduce_grammar}
 use Rattle.cd_grammar.specs.Tables.{tables}
-use Rattle.cd_placed.proofs.Rising.{Rises, ordered, risen}
+use Rattle.cd_placed.proofs.Once.{Stands, ordered, joined, no_places, one_place}
 use Rattle.cd_placed.proofs.HeldPlaces.{IsWalk, held, all_held}
 use Rattle.cd_placed.proofs.KeptPlaces.{Keeps, plain, no_place}
 use Rattle.cd_placed.proofs.KeptByMakes.{made_keeps}
@@ -60,17 +60,17 @@ module _ (E : Expr → List ℕ) (F : FunctionTree → List ℕ) (walk : IsWalk 
 
   -- a part begins between two places, and what it holds is there
   abbrev pub IsWithin : (from : ℕ) → Placed → (to : ℕ) → Type 0
-  IsWithin from v to = (from ≤ v.0.from) × (v.0.from < to) × Rises from (H v.1) to
+  IsWithin from v to = (from ≤ v.0.from) × (v.0.from < to) × Stands from (H v.1) to
 
   abbrev pub AreWithin : (from : ℕ) → List Placed → (to : ℕ) → Type 0
   AreWithin from [] to = from ≤ to
   AreWithin from (v ∷ vs) to = (middle : ℕ) × IsWithin from v middle × AreWithin middle vs to
 
-  pub all_rise : (from to : ℕ) (vs : List Placed) → AreWithin from vs to
-      → Rises from (all_held E F (parts_of vs)) to
-  all_rise from to [] are = are
-  all_rise from to (v ∷ vs) (middle, is, are) =
-      risen from middle to (H v.1) (all_held E F (parts_of vs)) is.2 (all_rise middle to vs are)
+  pub all_stand : (from to : ℕ) (vs : List Placed) → AreWithin from vs to
+      → Stands from (all_held E F (parts_of vs)) to
+  all_stand from to [] are = no_places from to are
+  all_stand from to (v ∷ vs) (middle, is, are) =
+      joined from middle to (H v.1) (all_held E F (parts_of vs)) is.2 (all_stand middle to vs are)
 
   -- what a rule makes
   pub rule_keeps : (p : ℕ) (vs : List Placed)
@@ -88,8 +88,8 @@ module _ (E : Expr → List ℕ) (F : FunctionTree → List ℕ) (walk : IsWalk 
   rule_within p from to (v ∷ vs) some (middle, is, are) =
       let low = is.0 in
       let high : v.0.from < to =
-      omega (arith, is.1, ordered middle to (all_held E F (parts_of vs)) (all_rise middle to vs are)) in
-      (low, high, (rule_keeps p (v ∷ vs)).rises from to low high (all_rise from to (v ∷ vs) (middle, is, are)))
+      omega (arith, is.1, ordered middle to (all_held E F (parts_of vs)) (all_stand middle to vs are)) in
+      (low, high, (rule_keeps p (v ∷ vs)).stand from to low high (all_stand from to (v ∷ vs) (middle, is, are)))
 
   mutual
     pub derived_within : (depth : ℕ) (x : Symbol) (entries : List Entry) (v : Placed)
@@ -100,7 +100,8 @@ module _ (E : Expr → List ℕ) (F : FunctionTree → List ℕ) (walk : IsWalk 
             → IsWithin from (value_of entry) to
         entry_within (To goal) from to stand = absurd stand
         entry_within (Read token) from to stand =
-            let high : token.span.from < to = omega (arith, stand.1, stand.2) in (stand.0, high, (stand.0, high))
+            let high : token.span.from < to = omega (arith, stand.1, stand.2) in
+            (stand.0, high, one_place from token.span.from to stand.0 high)
         entry_within (Later token) from to stand = absurd stand
     derived_within _ _ _ _ (made depth p entries values row_is) from to stand =
         let are = row_within depth (right tables p) entries values row_is from to stand in

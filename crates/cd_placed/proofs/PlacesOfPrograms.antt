@@ -16,21 +16,21 @@ use Rattle.cd_grammar.specs.Terminals.{terminal_of_goal}
 use Rattle.cd_grammar.specs.Language.{Entry, To, Read, Placed, kind_of, value_of, is_free, place_of, build, cduce_grammar}
 use Rattle.cd_grammar.specs.Language.{IsProgram}
 use Rattle.cd_grammar.specs.Tables.{tables}
-use Rattle.cd_placed.proofs.Rising.{Rises, longer}
+use Rattle.cd_placed.proofs.Once.{Stands, longer}
 use Rattle.cd_placed.proofs.HeldPlaces.{IsWalk, held, all_held}
 use Rattle.cd_grammar.proofs.Rules.{parts_of}
 use Rattle.cd_grammar.proofs.Rules.{IsStart, a_type, empty_file, a_file, empty_program, a_program, is_start}
-use Rattle.cd_placed.proofs.PlacesInOrder.{StandInOrder, all_rise, rule_keeps, row_within}
+use Rattle.cd_placed.proofs.PlacesInOrder.{StandInOrder, all_stand, rule_keeps, row_within}
 use Rattle.cd_placed.proofs.TokensInOrder.{tokens_in_order}
 use Rattle.cd_placed.proofs.FunctionPlaces.{function_places, places_of_function, functions_walk}
 use Rattle.cd_placed.proofs.PatternStarts.{pattern_starts, starts_of_function, patterns_walk}
 use Rattle.cd_placed.proofs.DifferentPlaces.{functions_differ, patterns_differ}
 
 module _ (E : Expr → List ℕ) (F : FunctionTree → List ℕ) (walk : IsWalk E F) where
-  -- the parts of a whole hold places that rise, and what the text is to be stands before them
+  -- the parts of a whole hold places that stand once, and what the text is to be stands before them
   record AreOfWhole (values : List Placed) (to : ℕ) : Type 0 where
     begins : (place_of values).from ≡ 0
-    rise : Rises 0 (all_held E F (parts_of values)) to
+    stand : Stands 0 (all_held E F (parts_of values)) to
 
   behind_goal : (depth : ℕ) (xs : List Symbol) (entries : List Entry) (values : List Placed)
       → Row cduce_grammar depth xs entries values → (w k : ℕ) (more : List Symbol) → xs ≡ Terminal w k ∷ more
@@ -43,8 +43,8 @@ module _ (E : Expr → List ℕ) (F : FunctionTree → List ℕ) (walk : IsWalk 
       let are = row_within E F walk _ xs b vs row_is 0 to (subst (λ es. StandInOrder 0 es to) (sym others) stand) in
       record {
         begins = ap (λ e. (value_of e).0.from) first;
-        rise = subst (λ e. Rises 0 (all_held E F (parts_of (value_of e ∷ vs))) to) (sym first)
-            (all_rise E F walk 0 to vs are.1);
+        stand = subst (λ e. Stands 0 (all_held E F (parts_of (value_of e ∷ vs))) to) (sym first)
+            (all_stand E F walk 0 to vs are.1);
       }
   behind_goal _ _ _ _ (next depth _ xs _ b _ vs (made _ p es values derived) row_is) w k more same is rest all to stand =
       cc
@@ -63,37 +63,37 @@ module _ (E : Expr → List ℕ) (F : FunctionTree → List ℕ) (walk : IsWalk 
   of_whole _ a_program is depth rest values row_is to stand =
       behind_goal depth _ _ values row_is _ _ _ refl is rest refl to stand
 
-  whole_rises : (is : Goal) (depth : ℕ) (rest : List Entry) (v : Placed) → Whole cduce_grammar depth (To is ∷ rest) v
-      → (to : ℕ) → StandInOrder 0 rest to → Rises 0 (held E F v.1) (suc to)
-  whole_rises is depth rest v derived to stand =
+  whole_stands : (is : Goal) (depth : ℕ) (rest : List Entry) (v : Placed) → Whole cduce_grammar depth (To is ∷ rest) v
+      → (to : ℕ) → StandInOrder 0 rest to → Stands 0 (held E F v.1) (suc to)
+  whole_stands is depth rest v derived to stand =
       let (p, same, values, row_is, made_so) =
       whole_by_text tables (terminal_of_goal goal.TypeText) tables.start refl kind_of value_of is_free build depth
       (To is ∷ rest) v derived in
       let are = of_whole p (is_start p same) is depth rest values row_is to stand in
       let here : (place_of values).from < suc to = omega (arith, are.begins) in
-      subst (λ w. Rises 0 (held E F w.1) (suc to)) (sym made_so)
-      ((rule_keeps E F walk p values).rises 0 (suc to) (omega arith) here
-      (longer 0 to (suc to) (all_held E F (parts_of values)) (omega arith) are.rise))
+      subst (λ w. Stands 0 (held E F w.1) (suc to)) (sym made_so)
+      ((rule_keeps E F walk p values).stand 0 (suc to) (omega arith) here
+      (longer 0 to (suc to) (all_held E F (parts_of values)) (omega arith) are.stand))
 
-  -- the places of the functions of a program, in the order of the text
-  program_rises : (text : List ℕ) (tokens : List Token) (depth : ℕ) (program : Program) → Lexes false 0 text tokens
-      → IsProgram depth tokens program → (to : ℕ) × Rises 0 (flat_map F program.functions) to
-  program_rises text tokens depth program lexes (types, same, written) =
+  -- the places of a program
+  program_stands : (text : List ℕ) (tokens : List Token) (depth : ℕ) (program : Program) → Lexes false 0 text tokens
+      → IsProgram depth tokens program → (to : ℕ) × Stands 0 (flat_map F program.functions) to
+  program_stands text tokens depth program lexes (types, same, written) =
       let (to, stand) = tokens_in_order false 0 text tokens lexes in (
         suc to,
-        whole_rises goal.ProgramText depth (map Read tokens) (written.0, AProgram types program.functions) written.1 to stand,
+        whole_stands goal.ProgramText depth (map Read tokens) (written.0, AProgram types program.functions) written.1 to stand,
       )
 
 pub functions_stand_apart : (text : List ℕ) (tokens : List Token) (depth : ℕ) (program : Program)
     → Lexes false 0 text tokens → IsProgram depth tokens program → PlacesDiffer (all_functions program)
 functions_stand_apart text tokens depth program lexes written =
-    let (to, rises) =
-    program_rises function_places places_of_function functions_walk text tokens depth program lexes written in
-    functions_differ 0 to program.functions rises
+    let (to, stand) =
+    program_stands function_places places_of_function functions_walk text tokens depth program lexes written in
+    functions_differ 0 to program.functions stand
 
 pub patterns_begin_apart : (text : List ℕ) (tokens : List Token) (depth : ℕ) (program : Program)
     → Lexes false 0 text tokens → IsProgram depth tokens program → StartsDiffer (all_patterns program)
 patterns_begin_apart text tokens depth program lexes written =
-    let (to, rises) =
-    program_rises pattern_starts starts_of_function patterns_walk text tokens depth program lexes written in
-    patterns_differ 0 to program.functions rises
+    let (to, stand) =
+    program_stands pattern_starts starts_of_function patterns_walk text tokens depth program lexes written in
+    patterns_differ 0 to program.functions stand

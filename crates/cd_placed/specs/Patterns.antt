@@ -1,4 +1,4 @@
--- The patterns of a program, in the order of the text.
+-- The patterns of a program, and where they begin in its text.
 use Rattle.std.specs.Prelude.{◌≢◌, ℕ, List, [], ◌∷◌, ◌++◌}
 use Rattle.cd_syntax.specs.TypeTree.{Tree, tree}
 use Rattle.cd_model.specs.AllOf.{AllOf}
