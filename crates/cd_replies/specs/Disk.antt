@@ -28,7 +28,7 @@ pub record Has (disk : Disk) (name bytes : Bytes) : Type 0 where
 
 -- how many bytes a file may have
 abbrev pub LARGEST : ℕ
-LARGEST = 16777216
+LARGEST = 67108864
 
 -- the file has this text
 pub record HasText (disk : Disk) (name text : Bytes) : Type 0 where

@@ -6,7 +6,7 @@ use cd_base::files::{Files, ReadError};
 use std::alloc::AllocError;
 
 /// How many bytes a file may have.
-pub const LARGEST: usize = 16_777_216;
+pub const LARGEST: usize = 67_108_864;
 
 /// Why a file has no text.
 #[derive(Clone, Copy)]

@@ -39,7 +39,7 @@ module _ (scope : Scope) where
   pub any_right : IsTestOf (anywhere (type.Builtin builtin.Any)) is_any
   any_right d element = refl
 
-  pub bare_right : IsTestOf (anywhere (type.Record type.NoField false)) is_bare
+  pub bare_right : IsTestOf (anywhere (type.Record type.NoField type.Closed)) is_bare
   bare_right (Record NoField) element = λ label. refl
   bare_right (Record (Field label d rest)) element = (label, chosen_here label _ refl)
   bare_right d element = refl

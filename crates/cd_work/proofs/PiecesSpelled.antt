@@ -15,7 +15,9 @@ use Rattle.cd_syntax.specs.Digits.{AreDigits, decimal_value, BeginsWithNoDigit}
 use Rattle.cd_syntax.specs.Integer.{IsInteger}
 use Rattle.cd_syntax.specs.Signs.{characters, IsLongest, closes}
 use Rattle.cd_syntax.specs.Comments.{begins_pair}
-use Rattle.cd_syntax.specs.Tokens.{is_blank, EndsWord, begins_negative, IsLexemeOf, word, number, sign, bytes, token_at}
+use Rattle.cd_syntax.specs.Numerals.{begins_negative}
+use Rattle.cd_syntax.specs.Numerals as numerals
+use Rattle.cd_syntax.specs.Tokens.{is_blank, EndsWord, IsLexemeOf, word, number, sign, bytes, token_at}
 use Rattle.cd_syntax.specs.Tokens.{blank, Lexes, nothing, dropped, token}
 use Rattle.cd_lex.specs.Inner.SignTable.{first_sign}
 use Rattle.cd_lex.proofs.Signing.{first_is_longest}
@@ -146,7 +148,8 @@ digits_stand joined digits text is =
     let are = and_parts (list_all is_ascii_digit digits) (are_some digits) both.0 in
     let end = and_parts (ends_digits text)
     (nat_le (decimal_value digits) 170141183460469231731687303715884105727) both.1 in
-    number digits text (are.0, not_none digits are.1) (digits_end text end.0) (fits (decimal_value digits) end.1)
+    number digits text (decimal_value digits)
+    (numerals.decimal digits text (are.0, not_none digits are.1) (digits_end text end.0)) (fits (decimal_value digits) end.1)
 
 -- digits stand where no digit comes after them
 pub digits_right : (joined : Bool) (digits text : List ℕ) → AreDigits digits → ends_digits text ≡ true

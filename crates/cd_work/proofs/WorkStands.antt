@@ -52,12 +52,12 @@ data Stands : NodeId → WrittenType → Type 0 where
   some_integers : (sequence part item : Span) → Stands INTS (here (any_number sequence part item (type.Builtin builtin.Int)))
   entry_name : Stands ENTRY_NAME (here (type.Atom (codes "e")))
   numbered : (at : ℕ) (span : Span) → Stands NUMBERED
-      (here (type.Record (AField (codes "n") at false (tree span (type.Builtin builtin.Int)) NoField) false))
+      (here (type.Record (AField (codes "n") at false (tree span (type.Builtin builtin.Int)) NoField) type.Closed))
   entry : Stands ENTRY (within scope entry_type)
   named_entry : Stands ENTRY (here (type.Named (codes "Entry")))
   some_entries : (sequence part item : Span) → Stands ENTRIES (here (any_number sequence part item (type.Named (codes "Entry"))))
   log_name : Stands LOG_NAME (here (type.Atom (codes "log")))
-  no_attribute : Stands NO_ATTRIBUTE (here (type.Record NoField false))
+  no_attribute : Stands NO_ATTRIBUTE (here (type.Record NoField type.Closed))
   log : Stands LOG (within scope log_type)
   named_log : Stands LOG (here (type.Named (codes "Log")))
 

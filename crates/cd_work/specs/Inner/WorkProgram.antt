@@ -1,8 +1,8 @@
 -- The program of the workload, as its text reads.
-use Rattle.std.specs.Prelude.{ℕ, suc, pred, false, [], ◌∷◌, codes}
+use Rattle.std.specs.Prelude.{ℕ, suc, pred, [], ◌∷◌, codes}
 use Rattle.cd_syntax.specs.declared.type_tree.Post.TheVariants as post
 use Rattle.cd_syntax.specs.TypeTree.{Tree, Xml, Atom, Record, Sequence, Seq, Repeat, Capture}
-use Rattle.cd_syntax.specs.TypeTree.{declarations_of, fields_of, regulars_of}
+use Rattle.cd_syntax.specs.TypeTree.{Closed, declarations_of, fields_of, regulars_of}
 use Rattle.cd_program.specs.Expr as code
 use Rattle.cd_program.specs.Expr.{Expr, Branches, Signature, FunctionTree, Program, branches_of}
 use Rattle.cd_grammar.specs.TreesAt.{tree_from, regular_from, named_at, ints_at, any_at, item}
@@ -23,7 +23,7 @@ log_type = tree_from 11 24 (Xml (tree_from 12 15 (Atom (codes "log"))) (no_attri
 
 abbrev pub entry_type : Tree
 entry_type = tree_from 38 53 (Xml (tree_from 39 40 (Atom (codes "e")))
-    (tree_from 41 46 (Record (fields_of (field_at "n" 41 (ints_at 43) ∷ [])) false))
+    (tree_from 41 46 (Record (fields_of (field_at "n" 41 (ints_at 43) ∷ [])) Closed))
     (integers_at 47 53))
 
 -- the pattern of a document, and that of an entry with a number in it
@@ -33,7 +33,7 @@ log_pattern = tree_from 85 91 (Xml (tree_from 86 89 (Atom (codes "log"))) (no_at
 
 abbrev pub entry_pattern : Tree
 entry_pattern = tree_from 112 130 (Xml (tree_from 113 114 (Atom (codes "e")))
-    (tree_from 115 118 (Record (fields_of (field_at "n" 115 (bound_at "k" 117) ∷ [])) false))
+    (tree_from 115 118 (Record (fields_of (field_at "n" 115 (bound_at "k" 117) ∷ [])) Closed))
     (tree_from 119 130 (Sequence (regular_from 120 129 (Seq (regulars_of
     (regular_from 120 126 (Capture (codes "x") (item (ints_at 123)))
     ∷ regular_from 127 129 (Repeat (item (any_at 127)) post.Star) ∷ [])))))))
