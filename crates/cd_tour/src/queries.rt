@@ -7,7 +7,7 @@ pub(crate) struct Query {
 }
 
 /// Queries on the files of the folder in which the tour runs.
-pub(crate) const QUERIES: [Query; 29] = [
+pub(crate) const QUERIES: [Query; 35] = [
     // An address book: validated, made into a page, and both again under a later schema.
     Query {
         words: &["member", "address.cd", "family.doc", "Book"],
@@ -139,6 +139,32 @@ pub(crate) const QUERIES: [Query; 29] = [
     Query {
         words: &["run", "downgraded.cd", "friends.doc"],
         meaning: "Here such a phone counts as one at home, and this book becomes one of the first version.",
+    },
+    // A vocabulary with free attributes.
+    Query {
+        words: &["member", "tasks.cd", "tasks.doc", "Tasks"],
+        meaning: "Tasks have attributes that the vocabulary names, and a tool may add others, whose values are texts.",
+    },
+    Query {
+        words: &["sub", "--types", "tasks.cd", "FreeTask", "Task"],
+        meaning: "Where further attributes may have any value, it need not be a text.",
+    },
+    Query {
+        words: &["check", "counted.cd"],
+        meaning: "The program adds an attribute to each task, and its value is a number.",
+    },
+    Query {
+        words: &["run", "sized.cd", "tasks.doc"],
+        meaning: "Here it is a text, and what other tools have added stays.",
+    },
+    // Queries.
+    Query {
+        words: &["run", "callers.cd", "family.doc"],
+        meaning: "A select gives the numbers at home with their names, and a path all emails.",
+    },
+    Query {
+        words: &["run", "kinds.cd", "friends.doc"],
+        meaning: "The path gives the attributes of the phones that have one.",
     },
     // Exceptions.
     Query {

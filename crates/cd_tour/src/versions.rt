@@ -7,7 +7,7 @@ use cd_base::memory_files::MemoryFiles;
 use std::alloc::{AllocError, Global};
 
 // As many bytes as a file of declarations may have.
-const MOST: usize = 16_777_216;
+const MOST: usize = 67_108_864;
 
 /// A file with the declarations of both versions, as `cat schema.cd schema2.cd >schemas.cd` makes
 /// it.
