@@ -1,6 +1,6 @@
 -- The nodes of the copies of a sequence.
 use Rattle.std.proofs.Common.{◌≡◌, ℕ, Bool, true, false, not, ◌||◌, ◌&&◌, List, [], ◌∷◌, ◌⊎◌, inl}
-use Rattle.std.proofs.Common.{◌<◌, ◌+◌, get_or}
+use Rattle.std.proofs.Common.{◌<◌, ◌+◌, get_or, map}
 use Rattle.std.proofs.lemmas.List.{length-map}
 use Rattle.std.proofs.Common.{inr, Option, Some, None, refl, sym, ap, ap₂, subst, ◌∙◌, bytes_eq}
 use Rattle.std.specs.List.{slice_get}
@@ -28,6 +28,7 @@ use Rattle.cd_kernel.specs.Copies.{gatherer, Copy, in_a_group, AreDisjoint, AreP
 use Rattle.cd_kernel.specs.Copies.{IsMove, IsState, IsCopy, AreJoined}
 use Rattle.cd_kernel.specs.Making.{inner, AreCopies}
 use Rattle.cd_kernel.specs.Making.{AreItemsOf, AreItemsOfAll}
+use Rattle.cd_kernel.proofs.ChainPieces.{BindInTurn, both_good}
 use Rattle.cd_kernel.proofs.CompletePatterns.{IsCompleteRegular, AreCompleteRegulars}
 use Rattle.cd_kernel.proofs.ItemsByNumber.{ItemsHave, AllItemsHave, item_has}
 use Rattle.cd_kernel.proofs.PartsStand.{items_long, states_long}
@@ -38,7 +39,7 @@ use Rattle.cd_kernel.proofs.StatesTake.{gatherer_in}
 use Rattle.cd_kernel.proofs.VariableNumbers.{names_same}
 use Rattle.cd_kernel.proofs.Pieces.{Within, kept_of, copy_binds, copies_bind, HasMove, has_move}
 use Rattle.cd_kernel.proofs.Pieces.{ItemMade, IsCopyOf, Piece, put_of, made, puts_of, state_of}
-use Rattle.cd_kernel.proofs.Pieces.{move_of, joined_of, Good, wider}
+use Rattle.cd_kernel.proofs.Pieces.{move_of, Good, wider}
 
 or_within : (a b c : Bool) → (b ≡ true → c ≡ true) → (a || b) ≡ true → (a || c) ≡ true
 or_within true b c on h = refl
@@ -354,31 +355,30 @@ module _ {T : Type 0} (IsType : T → Type 0) (types : Types T) (variables : Lis
             ∙ disjoint.1 (and_parts copy.plain (keeps name && not (is_gathered r name))
             (and_parts (inner keeps r copy name) (is_plain r name) one).0).0)
 
+    copies_in_turn : (keeps : Names) (r : Regular T) (copies : List Copy)
+        → AllOf (is_copy_of keeps r) copies → AreDisjoint copies
+        → BindInTurn IsType types variables nodes
+        (map (λ copy. copy_binds keeps r copy (is_plain r)) copies)
+        (map (λ copy. copy.start) copies)
+    copies_in_turn keeps r [] of disjoint = tt
+    copies_in_turn keeps r (copy ∷ copies) of disjoint = (
+      (
+        start_state keeps r copy of.0,
+        good_state keeps r copy (is_plain r) (once (first_moves r 0)) copy.start of.0
+            of.0.is_copy.starts (start_binds r of.0.named.2)
+            (has_move (rows_of r) (once (first_moves r 0)) (start_ends IsType r of.0.well_made)),
+      ),
+      copies_disjoint keeps r copy copies of disjoint,
+      copies_in_turn keeps r copies of.1 disjoint.2,
+    )
+
     pub good_joined : (keeps : Names) (r : Regular T) (copies : List Copy) (number : ℕ)
         → AreJoined types variables nodes copies number → AllOf (is_copy_of keeps r) copies
         → AreDisjoint copies → is_good (copies_bind keeps r copies) number
-    good_joined keeps r [] number joined of disjoint = absurd joined
-    good_joined keeps r (copy ∷ []) number joined of disjoint =
-        wider IsType types variables nodes (copy_binds keeps r copy (is_plain r))
-        (copies_bind keeps r (copy ∷ []))
-        (λ name h. or_left (copy_binds keeps r copy (is_plain r) name) false h) number
-        (subst (is_good (copy_binds keeps r copy (is_plain r))) joined
-        (good_state keeps r copy (is_plain r) (once (first_moves r 0)) copy.start of.0
-        of.0.is_copy.starts (start_binds r of.0.named.2)
-        (has_move (rows_of r) (once (first_moves r 0)) (start_ends IsType r of.0.well_made))))
-    good_joined keeps r (copy ∷ next ∷ copies) number (other, there, joined) of disjoint = (
-      Both copy.start other,
-      there,
-      tt,
-      (
-        copy_binds keeps r copy (is_plain r),
-        copies_bind keeps r (next ∷ copies),
-        start_state keeps r copy of.0,
-        joined_of keeps r (next ∷ copies) other joined of.1 disjoint.2,
-        copies_disjoint keeps r copy (next ∷ copies) of disjoint,
-        λ name h. h,
-      ),
-    )
+    good_joined keeps r copies number joined of disjoint =
+        both_good IsType types variables nodes (map (λ copy. copy.start) copies) number joined
+        (map (λ copy. copy_binds keeps r copy (is_plain r)) copies)
+        (copies_in_turn keeps r copies of disjoint)
 
     -- items
     mutual

@@ -1,5 +1,5 @@
 -- A node takes what the pattern takes that it is made of, with the same captures.
-use Rattle.std.proofs.Common.{◌≡◌, ℕ, ◌+◌, Bool, true, false, List}
+use Rattle.std.proofs.Common.{◌≡◌, ℕ, ◌+◌, Bool, true, false, List, [], ◌∷◌}
 use Rattle.std.proofs.Common.{Option, Some, option_map, refl, sym, ap, ap₂}
 use Rattle.std.proofs.Common.{◌∙◌}
 use Rattle.cd_syntax.specs.Name.{Name}
@@ -18,15 +18,14 @@ use Rattle.cd_matching.specs.Sequences.{thing_of}
 use Rattle.cd_matching.specs.Take.{take, take_all, take_first}
 use Rattle.cd_moves.specs.Automaton.{items_in}
 use Rattle.cd_kernel.specs.Copies.{Types, IsAt}
-use Rattle.cd_kernel.specs.Making.{inner, IsPut, IsKernelOf, IsBothOf}
-use Rattle.cd_kernel.specs.Making.{IsFirstOf, AreFieldsOf, AreItemsOf, AreItemsOfAll}
-use Rattle.cd_kernel.proofs.AnyOrder.{both_none}
+use Rattle.cd_kernel.specs.Making.{inner, IsPut, IsKernelOf, AreKernelsOf, AreFieldsOf}
+use Rattle.cd_kernel.specs.Making.{AreItemsOf, AreItemsOfAll}
 use Rattle.cd_kernel.proofs.CapturesByName.{named, named_both, named_just}
+use Rattle.cd_kernel.proofs.ChainsTake.{all_take, one_takes, both_takes, first_takes}
 use Rattle.cd_kernel.proofs.ItemsByNumber.{ItemsHave, AllItemsHave}
 use Rattle.cd_kernel.proofs.KeptCaptures.{kept, kept_both, kept_or, kept_so, kept_one}
-use Rattle.cd_kernel.proofs.OrElse.{or_else_none}
 use Rattle.cd_kernel.proofs.StatesTake.{AreRight, takes_named, TakesKept}
-use Rattle.cd_kernel.proofs.StatesTake.{unfolds_at, takes_both, takes_first, takes_test}
+use Rattle.cd_kernel.proofs.StatesTake.{unfolds_at, takes_test}
 use Rattle.cd_kernel.proofs.RecordsTake.{FieldsAlike, record_alike}
 use Rattle.cd_kernel.proofs.SequencesTake.{ItemsAlike, sequence_alike}
 
@@ -136,43 +135,40 @@ module _ {T : Type 0} (test : T → Thing → Bool) (types : Types T) (variables
         record_alike test types variables nodes right keeps fields more number written rising there
         order apart
         (fields_alike keeps fields written are)
-    kernels_take keeps (pattern.Both all) number there = both_take keeps all number there
-    kernels_take keeps (pattern.First all) number there = first_takes keeps all number there
+    kernels_take keeps (pattern.Both all) number (numbers, are, chain) = λ d.
+        both_takes test types variables nodes right d numbers number chain
+        ∙ all_take_alike keeps all numbers are d
+    kernels_take keeps (pattern.First all) number (numbers, are, chain) = λ d.
+        first_takes test types variables nodes right d numbers number chain
+        ∙ one_takes_alike keeps all numbers are d
     kernels_take keeps (pattern.Sequence r) number (copies, are, each) =
         sequence_alike test types variables nodes right keeps r copies number are
         (each_weaker (λ copy. AreItemsOf types variables nodes (inner keeps r copy) copy.items r 0)
         (ItemsAlike test types variables nodes right keeps r)
         (λ copy. items_alike (inner keeps r copy) copy.items r 0) copies each)
 
-    both_take : (keeps : Name → Bool) (all : Patterns T) (number : ℕ)
-        → IsBothOf types variables nodes keeps all number → (d : Thing)
-        → taken_named d number ≡ option_map (kept keeps) (take_all T test all d)
-    both_take keeps NoPattern number there = λ d.
-        takes_test test types variables nodes right d number types.any there
-        ∙ ap if_so (right.any d) ∙ sym (kept_so keeps true)
-    both_take keeps (APattern p NoPattern) number there = λ d.
-        kernels_take keeps p number there d
-        ∙ ap (option_map (kept keeps)) (sym (both_none (take_it p d)))
-    both_take keeps (APattern p (APattern next rest)) number (one, other, there, a, b) = λ d.
-        takes_both test types variables nodes right d number one other there
-        ∙ ap₂ both (kernels_take keeps p one a d)
-        (both_take keeps (APattern next rest) other b d)
-        ∙ sym (kept_both keeps (take_it p d) (take_all T test (APattern next rest) d))
+    all_take_alike : (keeps : Name → Bool) (all : Patterns T) (numbers : List ℕ)
+        → AreKernelsOf types variables nodes keeps all numbers → (d : Thing)
+        → all_take test types variables nodes right d numbers
+        ≡ option_map (kept keeps) (take_all T test all d)
+    all_take_alike keeps NoPattern [] are = λ d. sym (kept_so keeps true)
+    all_take_alike keeps NoPattern (number ∷ numbers) are = absurd are
+    all_take_alike keeps (APattern p rest) [] are = absurd are
+    all_take_alike keeps (APattern p rest) (number ∷ numbers) are = λ d.
+        ap₂ both (kernels_take keeps p number are.0 d) (all_take_alike keeps rest numbers are.1 d)
+        ∙ sym (kept_both keeps (take_it p d) (take_all T test rest d))
 
-    first_takes : (keeps : Name → Bool) (all : Patterns T) (number : ℕ)
-        → IsFirstOf types variables nodes keeps all number → (d : Thing)
-        → taken_named d number ≡ option_map (kept keeps) (take_first T test all d)
-    first_takes keeps NoPattern number there = λ d.
-        takes_test test types variables nodes right d number types.empty there
-        ∙ ap if_so (right.empty d)
-    first_takes keeps (APattern p NoPattern) number there = λ d.
-        kernels_take keeps p number there d
-        ∙ ap (option_map (kept keeps)) (sym (or_else_none (take_it p d)))
-    first_takes keeps (APattern p (APattern next rest)) number (one, other, there, a, b) = λ d.
-        takes_first test types variables nodes right d number one other there
-        ∙ ap₂ or_else (kernels_take keeps p one a d)
-        (first_takes keeps (APattern next rest) other b d)
-        ∙ sym (kept_or keeps (take_it p d) (take_first T test (APattern next rest) d))
+    one_takes_alike : (keeps : Name → Bool) (all : Patterns T) (numbers : List ℕ)
+        → AreKernelsOf types variables nodes keeps all numbers → (d : Thing)
+        → one_takes test types variables nodes right d numbers
+        ≡ option_map (kept keeps) (take_first T test all d)
+    one_takes_alike keeps NoPattern [] are = λ d. refl
+    one_takes_alike keeps NoPattern (number ∷ numbers) are = absurd are
+    one_takes_alike keeps (APattern p rest) [] are = absurd are
+    one_takes_alike keeps (APattern p rest) (number ∷ numbers) are = λ d.
+        ap₂ or_else (kernels_take keeps p number are.0 d)
+        (one_takes_alike keeps rest numbers are.1 d)
+        ∙ sym (kept_or keeps (take_it p d) (take_first T test rest d))
 
     fields_alike : (keeps : Name → Bool) (fields : Fields T)
         (written : List (Name × KernelField T))

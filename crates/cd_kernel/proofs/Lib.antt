@@ -16,6 +16,7 @@ pub mod StatesTake
 pub mod AnyOrder
 pub mod ItemsByNumber
 pub mod RecordsTake
+pub mod ChainsTake
 pub mod SequencesTake
 pub mod KernelsTake
 pub mod KernelsAreExact
@@ -23,6 +24,7 @@ pub mod CompletePatterns
 pub mod StateEnds
 pub mod PlainVariables
 pub mod Pieces
+pub mod ChainPieces
 pub mod CopyPieces
 pub mod PatternPieces
 pub mod BindsNoMore

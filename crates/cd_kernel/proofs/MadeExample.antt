@@ -15,6 +15,7 @@ use Rattle.cd_matching.specs.Pattern.{OfType}
 use Rattle.cd_matching.specs.Variables.{binds}
 use Rattle.cd_kernel.specs.Alternatives.{HasAlternatives}
 use Rattle.cd_moves.specs.Automaton.{Move, End, To, ItemOf, items_of, rows_of}
+use Rattle.cd_kernel.specs.Chains.{one_node}
 use Rattle.cd_kernel.specs.Copies.{IsNumber, is_among, gatherer, Copy, IsState, IsCopy}
 use Rattle.cd_kernel.specs.Examples.{two_gather, greedy, greedy_kernel}
 use Rattle.cd_kernel.specs.Making.{the_types, AreCopies, IsKernelOf, IsMade}
@@ -109,7 +110,7 @@ is_copy = record {
 are_copies : AreCopies the_types greedy_kernel.variables nodes (λ name. true) two_gather
     (the_copy ∷ []) 0
 are_copies = record {
-  joined = refl;
+  joined = one_node 0;
   each = (is_copy, tt);
   groups = λ name.
       ap₂ (λ (a b : Bool). (a || (b || false)) || false) (name_turned name x) (name_turned name y)

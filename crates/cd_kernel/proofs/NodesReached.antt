@@ -1,6 +1,6 @@
 -- Each node that is put for a chain or for the moves of a state is reached from the last one.
-use Rattle.std.proofs.Common.{◌≡◌, ◌<◌, ◌≤◌, ℕ, suc, List, [], ◌∷◌, ◌++◌, inl, inr, length, Some}
-use Rattle.std.proofs.Common.{None, refl, sym, subst, arith}
+use Rattle.std.proofs.Common.{◌≡◌, ◌<◌, ◌≤◌, ◌/◌, ℕ, zero, suc, List, [], ◌∷◌, ◌++◌, inl, inr}
+use Rattle.std.proofs.Common.{length, take, drop, Some, None, refl, sym, subst, arith}
 use Rattle.std.specs.List.{slice_get}
 use Rattle.std.specs.Option.{unwrap_or}
 use Rattle.std.proofs.lemmas.Bool.{cases_lt}
@@ -9,11 +9,14 @@ use Rattle.cd_sets.specs.declared.node_id.NodeId.{NodeId}
 use Rattle.cd_syntax.specs.declared.constant.Constant.TheVariants as constant
 use Rattle.cd_model.specs.AllOf.{AllOf, AnyOf}
 use Rattle.cd_model.specs.BuiltIns.{NIL, ANY, EMPTY}
+use Rattle.cd_model.proofs.Ones.{each_of_lists}
 use Rattle.cd_matching.specs.Kernel.{KernelNode, Test, Put, Both, First, leads_to, parts_of}
 use Rattle.cd_moves.specs.Automaton.{Move, End, To}
-use Rattle.cd_kernel.specs.Inner.Building.{Nodes, Chain, put, linked, chain_of, or_put, chained}
+use Rattle.cd_kernel.specs.Chains.{IsChain, one_node, two_chains}
+use Rattle.cd_kernel.specs.Inner.Building.{Nodes, Chain, put, chain_within, chained}
 use Rattle.cd_kernel.specs.Inner.Building.{Steps, put_empty, step, put_move, with_move_before}
 use Rattle.cd_kernel.specs.Inner.Building.{moves_chain, or_failing, put_row, put_rows}
+use Rattle.cd_kernel.proofs.ChainsBuilt.{chain_keeps}
 use Rattle.cd_kernel.proofs.GrowingNodes.{Keeps, length_last, keeps_more, is_put}
 use Rattle.cd_kernel.proofs.PatternsMade.{Joins, both_joins, first_joins}
 use Rattle.cd_kernel.proofs.RowsBuilt.{empty_is_made, move_is_made, rows_grow}
@@ -57,48 +60,44 @@ module _ (final : Nodes) (Reached : ℕ → Type 0)
         (subst (λ (led : List ℕ). AnyOf (λ other. other ≡ second) (led ++ parts_of (node first second)))
         (sym (joins first second)) (inr (inl refl)))
 
-    -- the head of a chain, if there is one
-    abbrev HeadReached : Chain → Type 0
-    HeadReached chain = (number : ℕ) → chain.0 ≡ Some number → Reached number
+    module _ (none : NodeId) where
+      chain_reached : (steps : ℕ) (numbers : List ℕ) (nodes : Nodes)
+          → Keeps (chain_within steps node none numbers nodes).1 final
+          → Reached (chain_within steps node none numbers nodes).0 → AllReached nodes
+          → AllReached (chain_within steps node none numbers nodes).1
+      chain_reached steps [] nodes keeps root before = put_reached (Test none) nodes root before
+      chain_reached steps (number ∷ []) nodes keeps root before = before
+      chain_reached zero (number ∷ next ∷ numbers) nodes keeps root before = before
+      chain_reached (suc steps) (number ∷ next ∷ numbers) nodes keeps root before =
+          let all = number ∷ next ∷ numbers in
+          let front = take (length all / 2) all in
+          let back = drop (length all / 2) all in
+          let first = chain_within steps node none front nodes in
+          let second = chain_within steps node none back first.1 in
+          let there = is_put (node first.0 second.0) second.1 final keeps in
+          let stay = λ (n : ℕ) (x : KernelNode NodeId) (h : slice_get second.1 n ≡ Some x).
+          keeps n x (keeps_more second.1 (node first.0 second.0 ∷ []) n x h) in
+          put_reached (node first.0 second.0) second.1 root
+          (chain_reached steps back first.1 stay
+          (second_reached (length second.1) first.0 second.0 root there)
+          (chain_reached steps front nodes
+          (λ n x h. stay n x (chain_keeps node none steps back first.1 n x h))
+          (first_reached (length second.1) first.0 second.0 root there) before))
 
-    linked_reached : (number : ℕ) (chain : Chain) → Keeps (linked node number chain).1 final
-        → HeadReached (linked node number chain)
-        → (Keeps chain.1 final → HeadReached chain → AllReached chain.1)
-        → AllReached (linked node number chain).1
-    linked_reached number (None, nodes) keeps head rest =
-        rest keeps (λ n h. absurd (none-some n h))
-    linked_reached number (Some other, nodes) keeps head rest =
-        let last = head (length nodes) refl in
-        put_reached (node number other) nodes last
-        (rest (λ n x h. keeps n x (keeps_more nodes (node number other ∷ []) n x h))
-        (λ n h. subst Reached (same_Some other n h) (second_reached (length nodes) number other last
-        (is_put (node number other) nodes final keeps))))
+      pub chained_reached : (numbers : List ℕ) (nodes : Nodes)
+          → Keeps (chained node none numbers nodes).1 final
+          → Reached (chained node none numbers nodes).0 → AllReached nodes
+          → AllReached (chained node none numbers nodes).1
+      chained_reached numbers = chain_reached (length numbers) numbers
 
-    chain_reached : (numbers : List ℕ) (nodes : Nodes)
-        → Keeps (chain_of node numbers nodes).1 final → HeadReached (chain_of node numbers nodes)
-        → AllReached nodes → AllReached (chain_of node numbers nodes).1
-    chain_reached [] nodes keeps head before = before
-    chain_reached (number ∷ numbers) nodes keeps head before =
-        linked_reached number (chain_of node numbers nodes) keeps head
-        (λ stay first. chain_reached numbers nodes stay first before)
-
-    whole_reached : (none : NodeId) (chain : Chain) → Keeps (or_put (Test none) chain).1 final
-        → Reached (or_put (Test none) chain).0
-        → (Keeps chain.1 final → HeadReached chain → AllReached chain.1)
-        → AllReached (or_put (Test none) chain).1
-    whole_reached none (Some number, nodes) keeps root rest =
-        rest keeps (λ n h. subst Reached (same_Some number n h) root)
-    whole_reached none (None, nodes) keeps root rest = put_reached (Test none) nodes root
-        (rest (λ n x h. keeps n x (keeps_more nodes (Test none ∷ []) n x h))
-        (λ n h. absurd (none-some n h)))
-
-    pub chained_reached : (none : NodeId) (numbers : List ℕ) (nodes : Nodes)
-        → Keeps (chained node none numbers nodes).1 final
-        → Reached (chained node none numbers nodes).0 → AllReached nodes
-        → AllReached (chained node none numbers nodes).1
-    chained_reached none numbers nodes keeps root before =
-        whole_reached none (chain_of node numbers nodes) keeps root
-        (λ stay head. chain_reached numbers nodes stay head before)
+    -- so are the nodes that are joined
+    pub members_reached : (numbers : List ℕ) (number : ℕ) → IsChain final node numbers number
+        → Reached number → AllOf Reached numbers
+    members_reached _ _ (one_node number) reached = (reached, tt)
+    members_reached _ _ (two_chains front back first second number there one other) reached =
+        each_of_lists Reached front back
+        (members_reached front first one (first_reached number first second reached there))
+        (members_reached back second other (second_reached number first second reached there))
 
   empty_reached : (type : NodeId) (group : List ℕ) (nodes : Nodes)
       → Keeps (put_empty type group nodes).1 final → Reached (put_empty type group nodes).0

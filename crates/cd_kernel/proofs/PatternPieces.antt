@@ -1,14 +1,14 @@
 -- The node of each piece: it is what the piece is made of.
 use Rattle.std.proofs.Common.{◌≡◌, ℕ, Bool, true, false, ◌||◌, ◌&&◌, List, [], ◌∷◌}
 use Rattle.std.proofs.Common.{refl, sym, ap, subst, ◌∙◌, bytes_eq}
-use Rattle.std.proofs.lemmas.Bool.{true≢false, or_left, or_right, and_parts, or_parts, and_from}
+use Rattle.std.proofs.lemmas.Bool.{or_left, or_right, and_parts, or_parts, and_from}
 use Rattle.cd_syntax.specs.Name.{Name}
 use Rattle.cd_syntax.specs.declared.constant.Constant.TheVariants as constant
 use Rattle.cd_model.specs.AllOf.{AllOf}
 use Rattle.cd_matching.specs.Kernel.{KernelNode, KernelField, Present, Optional, Test, Bind, Put}
 use Rattle.cd_matching.specs.Kernel.{Pair, Xml, Record, Both, First, variables_of}
-use Rattle.cd_matching.specs.Naming.{AreDisjointNames, AreSame, FieldsDisjoint, AreNamedDisjoint}
-use Rattle.cd_matching.specs.Naming.{AreNamedSame, AreNamedAs, AreNamedFields}
+use Rattle.cd_matching.specs.Naming.{AreDisjointNames, FieldsDisjoint, AreNamedDisjoint}
+use Rattle.cd_matching.specs.Naming.{AreNamedAs, AreNamedFields}
 use Rattle.cd_matching.specs.Pattern as pattern
 use Rattle.cd_matching.specs.Pattern.{Pattern, Patterns, NoPattern, APattern, Fields, NoField}
 use Rattle.cd_matching.specs.Pattern.{Regular, Regulars, NoRegular, ARegular, Sequence}
@@ -16,16 +16,16 @@ use Rattle.cd_matching.specs.Variables.{binds, all_bind, fields_bind}
 use Rattle.cd_matching.specs.Variables.{regular_binds}
 use Rattle.cd_matching.proofs.NilIsElement.{nil_is_element}
 use Rattle.cd_kernel.specs.Copies.{Types, AreTypes}
-use Rattle.cd_kernel.specs.Making.{IsPut, IsBothOf, IsFirstOf}
-use Rattle.cd_kernel.specs.Making.{AreFieldsOf}
+use Rattle.cd_kernel.specs.Making.{IsChainOr, IsPut, AreKernelsOf, AreFieldsOf}
+use Rattle.cd_kernel.proofs.ChainPieces.{GoodPiece, BindInTurn, both_good, first_good}
 use Rattle.cd_kernel.proofs.CompletePatterns.{AreComplete, AreCompleteFields}
 use Rattle.cd_kernel.proofs.AnyOrder.{all_reordered, EachTwo, two_reordered}
 use Rattle.cd_kernel.proofs.PlainVariables.{Names, either}
 use Rattle.cd_kernel.proofs.VariableNumbers.{name_itself}
 use Rattle.cd_kernel.proofs.Pieces.{Within, disjoint_turned, kept_of, kept_within, kept_either}
-use Rattle.cd_kernel.proofs.Pieces.{kept_three, kept_disjoint, copies_bind, ItemMade, Piece, test_of}
-use Rattle.cd_kernel.proofs.Pieces.{put_of, made, both_of, first_of, puts_of, state_of, move_of}
-use Rattle.cd_kernel.proofs.Pieces.{joined_of, Allowed, FieldIs, FieldsBindDisjoint, Shape, Good}
+use Rattle.cd_kernel.proofs.Pieces.{kept_three, kept_disjoint, any_of, copies_bind, ItemMade, Piece}
+use Rattle.cd_kernel.proofs.Pieces.{test_of, put_of, made, both_of, first_of, puts_of, state_of}
+use Rattle.cd_kernel.proofs.Pieces.{move_of, Allowed, FieldIs, FieldsBindDisjoint, Shape, Good}
 use Rattle.cd_kernel.proofs.Pieces.{wider}
 use Rattle.cd_kernel.proofs.CopyPieces.{good_puts, good_move, good_state, good_joined, copies_of}
 use Rattle.cd_kernel.proofs.CopyPieces.{copies_within}
@@ -154,35 +154,33 @@ module _ {T : Type 0} (IsType : T → Type 0) (types : Types T) (variables : Lis
     disjoint_either_way (label, Optional type) (name, Present number) apart = tt
     disjoint_either_way (label, Optional type) (name, Optional other) apart = tt
 
-    -- alternatives bind the same
-    all_as : (bound : Names) (first : Pattern T) (rest : Patterns T)
-        → AreNamedAs bound (APattern first rest)
-        → AreSame bound (all_bind (APattern first rest))
-    all_as bound first NoPattern named name =
-        by_bool (bound name) (binds first name) (sym (named.0 name))
-      where
-        by_bool : (a b : Bool) → a ≡ b → a ≡ (b || false)
-        by_bool true true same = refl
-        by_bool false false same = refl
-        by_bool true false same = absurd (true≢false same)
-        by_bool false true same = absurd (true≢false (sym same))
-    all_as bound first (APattern next rest) named name =
-        by_bool (bound name) (binds first name) (all_bind (APattern next rest) name)
-        (sym (named.0 name)) (all_as bound next rest named.2 name)
-      where
-        by_bool : (a b c : Bool) → a ≡ b → a ≡ c → a ≡ (b || c)
-        by_bool a true c same too = same
-        by_bool a false c same too = too
+    -- what some patterns bind
+    abbrev bounds_of : (keeps : Names) → Patterns T → List Names
+    bounds_of keeps NoPattern = []
+    bounds_of keeps (APattern p rest) = kept_of keeps (binds p) ∷ bounds_of keeps rest
 
-    as_again : (bound : Names) (first : Pattern T) (rest : Patterns T)
-        → AreNamedAs bound (APattern first rest) → AreNamedSame (APattern first rest)
-    as_again bound first rest named =
-        (named.1, turned rest named.2)
+    bounds_are : (keeps : Names) (all : Patterns T) (name : Name)
+        → any_of (bounds_of keeps all) name ≡ kept_of keeps (all_bind all) name
+    bounds_are keeps NoPattern name = by_bool (keeps name)
       where
-        turned : (all : Patterns T) → AreNamedAs bound all → AreNamedAs (binds first) all
-        turned NoPattern like = tt
-        turned (APattern p all) like =
-            ((λ name. like.0 name ∙ sym (named.0 name)), like.1, turned all like.2)
+        by_bool : (k : Bool) → false ≡ (k && false)
+        by_bool true = refl
+        by_bool false = refl
+    bounds_are keeps (APattern p rest) name =
+        ap ((keeps name && binds p name) ||◌) (bounds_are keeps rest name)
+        ∙ by_bool (keeps name) (binds p name) (all_bind rest name)
+      where
+        by_bool : (k a b : Bool) → ((k && a) || (k && b)) ≡ (k && (a || b))
+        by_bool true a b = refl
+        by_bool false a b = refl
+
+    good_both : (bounds : List Names) (numbers : List ℕ) (number : ℕ)
+        → IsChainOr types variables nodes Both types.any numbers number
+        → BindInTurn IsType types variables nodes bounds numbers → is_good (any_of bounds) number
+    good_both [] [] number there are = (Test types.any, there, tt, are_types.1)
+    good_both (bound ∷ more) [] number there are = absurd are
+    good_both bounds (first ∷ rest) number chain are =
+        both_good IsType types variables nodes (first ∷ rest) number chain bounds are
 
     -- patterns
     mutual
@@ -245,10 +243,31 @@ module _ {T : Type 0} (IsType : T → Type 0) (types : Types T) (variables : Lis
                   (fields_disjoint keeps fields written are named.2 fits named.1),
             ),
           )
-      good_made keeps (pattern.Both all) number (there, named, fits) =
-          good_both keeps all number there named fits
-      good_made keeps (pattern.First all) number (there, named, fits) =
-          good_first keeps all number there named fits
+      good_made keeps (pattern.Both all) number ((numbers, are, chain), named, fits) =
+          wider IsType types variables nodes (any_of (bounds_of keeps all))
+          (kept_of keeps (all_bind all)) (λ name h. sym (bounds_are keeps all name) ∙ h) number
+          (good_both (bounds_of keeps all) numbers number chain
+          (in_turn keeps all numbers are named fits))
+      good_made keeps (pattern.First NoPattern) number (([], are, there), named, fits) =
+          (Test types.empty, there, tt, are_types.2)
+      good_made keeps (pattern.First NoPattern) number ((first ∷ rest, are, chain), named, fits) =
+          absurd are
+      good_made keeps (pattern.First (APattern p rest)) number (([], are, there), named, fits) =
+          absurd are
+      good_made keeps (pattern.First (APattern p rest)) number
+          ((one ∷ others, are, chain), named, fits) =
+          wider IsType types variables nodes (kept_of keeps (binds p))
+          (kept_of keeps (all_bind (APattern p rest)))
+          (kept_within keeps (binds p) (all_bind (APattern p rest))
+          (λ name. or_left (binds p name) (all_bind rest name))) number
+          (first_good IsType types variables nodes (kept_of keeps (binds p)) (one ∷ others) number
+          chain (
+            (
+              made keeps p one (are.0, named.0, fits.0),
+              good_made keeps p one (are.0, named.0, fits.0),
+            ),
+            alike keeps (binds p) rest others are.1 named.1 fits.1,
+          ))
       good_made keeps (pattern.Sequence r) number ((copies, are, items), named, fits) =
           let of = copies_of IsType types variables nodes are_types keeps r copies number are named
           fits items in
@@ -258,69 +277,49 @@ module _ {T : Type 0} (IsType : T → Type 0) (types : Types T) (variables : Lis
           (good_joined IsType types variables nodes are_types keeps r copies number are.joined
           of are.disjoint)
 
-      good_both : (keeps : Names) (all : Patterns T) (number : ℕ)
-          → IsBothOf types variables nodes keeps all number → AreNamedDisjoint all
-          → AreComplete IsType all → is_good (kept_of keeps (all_bind all)) number
-      good_both keeps NoPattern number there named fits = (Test types.any, there, tt, are_types.1)
-      good_both keeps (APattern p NoPattern) number there named fits =
-          wider IsType types variables nodes (kept_of keeps (binds p))
-          (kept_of keeps (all_bind (APattern p NoPattern)))
-          (kept_within keeps (binds p) (all_bind (APattern p NoPattern))
-          (λ name. or_left (binds p name) false)) number
-          (good_made keeps p number (there, named.1, fits.0))
-      good_both keeps (APattern p (APattern next rest)) number (one, other, there, a, b) named fits
-          = (
-            Both one other,
-            there,
-            tt,
-            (
-              kept_of keeps (binds p),
-              kept_of keeps (all_bind (APattern next rest)),
-              made keeps p one (a, named.1, fits.0),
-              both_of keeps (APattern next rest) other b named.2 fits.1,
-              kept_disjoint keeps (binds p) (all_bind (APattern next rest)) named.0,
-              λ name. kept_either (keeps name) (binds p name) (all_bind (APattern next rest) name),
-            ),
-          )
+      -- the members of a Both, and those of a First, which bind the same
+      in_turn : (keeps : Names) (all : Patterns T) (numbers : List ℕ)
+          → AreKernelsOf types variables nodes keeps all numbers → AreNamedDisjoint all
+          → AreComplete IsType all
+          → BindInTurn IsType types variables nodes (bounds_of keeps all) numbers
+      in_turn keeps NoPattern [] are named fits = tt
+      in_turn keeps NoPattern (number ∷ numbers) are named fits = absurd are
+      in_turn keeps (APattern p rest) [] are named fits = absurd are
+      in_turn keeps (APattern p rest) (number ∷ numbers) are named fits = (
+        (
+          made keeps p number (are.0, named.1, fits.0),
+          good_made keeps p number (are.0, named.1, fits.0),
+        ),
+        (λ name h. bounds_are keeps rest name
+            ∙ kept_disjoint keeps (binds p) (all_bind rest) named.0 name h),
+        in_turn keeps rest numbers are.1 named.2 fits.1,
+      )
 
-      good_first : (keeps : Names) (all : Patterns T) (number : ℕ)
-          → IsFirstOf types variables nodes keeps all number → AreNamedSame all
-          → AreComplete IsType all → is_good (kept_of keeps (all_bind all)) number
-      good_first keeps NoPattern number there named fits =
-          (Test types.empty, there, tt, are_types.2)
-      good_first keeps (APattern p NoPattern) number there named fits =
-          wider IsType types variables nodes (kept_of keeps (binds p))
-          (kept_of keeps (all_bind (APattern p NoPattern)))
-          (kept_within keeps (binds p) (all_bind (APattern p NoPattern))
-          (λ name. or_left (binds p name) false)) number
-          (good_made keeps p number (there, named.0, fits.0))
-      good_first keeps (APattern p (APattern next rest)) number (one, other, there, a, b) named fits
-          = (
-            First one other,
-            there,
-            tt,
-            (
-              kept_of keeps (binds p),
-              kept_of keeps (all_bind (APattern next rest)),
-              made keeps p one (a, named.0, fits.0),
-              first_of keeps (APattern next rest) other b (as_again (binds p) next rest named.1)
-                  fits.1,
-              (λ name. ap (λ (t : Bool). keeps name && t)
-                  (all_as (binds p) next rest named.1 name)),
-              kept_within keeps (binds p) (all_bind (APattern p (APattern next rest)))
-                  (λ name. or_left (binds p name) (all_bind (APattern next rest) name)),
+      alike : (keeps bound : Names) (all : Patterns T) (numbers : List ℕ)
+          → AreKernelsOf types variables nodes keeps all numbers → AreNamedAs bound all
+          → AreComplete IsType all
+          → AllOf (GoodPiece IsType types variables nodes (kept_of keeps bound)) numbers
+      alike keeps bound NoPattern [] are named fits = tt
+      alike keeps bound NoPattern (number ∷ numbers) are named fits = absurd are
+      alike keeps bound (APattern p rest) [] are named fits = absurd are
+      alike keeps bound (APattern p rest) (number ∷ numbers) are named fits = (
+        subst (λ (b : Names). GoodPiece IsType types variables nodes (kept_of keeps b) number)
+            (λ i name. named.0 name i) (
+              made keeps p number (are.0, named.1, fits.0),
+              good_made keeps p number (are.0, named.1, fits.0),
             ),
-          )
+        alike keeps bound rest numbers are.1 named.2 fits.1,
+      )
 
     pub good : (bound : Names) (number : ℕ) → a_piece bound number → is_good bound number
     good _ _ (test_of type number there is) = (Test type, there, tt, is)
     good _ _ (put_of name variable number is_number there) =
         (Put variable constant.Nil, there, ((name, is_number, name_itself name), tt), nil_is_element)
     good _ _ (made keeps p number is) = good_made keeps p number is
-    good _ _ (both_of keeps all number there named fits) =
-        good_both keeps all number there named fits
-    good _ _ (first_of keeps all number there named fits) =
-        good_first keeps all number there named fits
+    good _ _ (both_of first second one other number there p q apart) =
+        (Both one other, there, tt, (first, second, p, q, apart, λ name h. h))
+    good _ _ (first_of bound one other number there p q) =
+        (First one other, there, tt, (bound, bound, p, q, (λ name. refl), λ name h. h))
     good _ _ (puts_of type names number there is distinct) =
         good_puts IsType types variables nodes type names number there is distinct
     good _ _ (state_of keeps r copy plain moves number of there fits has) =
@@ -329,5 +328,3 @@ module _ {T : Type 0} (IsType : T → Type 0) (types : Types T) (variables : Lis
     good _ _ (move_of keeps r copy plain move number of there fits) =
         good_move IsType types variables nodes are_types keeps r copy plain move number of there
         fits
-    good _ _ (joined_of keeps r copies number joined of disjoint) =
-        good_joined IsType types variables nodes are_types keeps r copies number joined of disjoint

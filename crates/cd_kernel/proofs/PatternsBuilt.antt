@@ -21,14 +21,14 @@ use Rattle.cd_matching.specs.Variables.{one_is_plain as one_has_plain, names_lab
 use Rattle.cd_moves.specs.Automaton.{items_in, items_in_all}
 use Rattle.cd_kernel.specs.Copies.{IsNumber, Copy}
 use Rattle.cd_kernel.specs.Making.{AreCopies}
-use Rattle.cd_kernel.specs.Making.{the_types, inner, IsPut, IsKernelOf, IsBothOf, IsFirstOf}
+use Rattle.cd_kernel.specs.Making.{the_types, inner, IsChainOr, IsPut, IsKernelOf, AreKernelsOf}
 use Rattle.cd_kernel.specs.Making.{AreFieldsOf, AreItemsOf, AreItemsOfAll}
 use Rattle.cd_kernel.specs.Inner.Building.{Nodes, put_if, chained, KernelFields}
 use Rattle.cd_kernel.specs.Inner.Building.{sorted_over}
 use Rattle.cd_kernel.specs.Inner.Building.{built, built_all, built_fields, built_items}
 use Rattle.cd_kernel.specs.Inner.Building.{built_items_all}
 use Rattle.cd_kernel.specs.Inner.Gathering.{numbered, groups_of}
-use Rattle.cd_kernel.proofs.ChainsBuilt.{IsChainOf, chained_is}
+use Rattle.cd_kernel.proofs.ChainsBuilt.{chained_is}
 use Rattle.cd_kernel.proofs.FieldsSorted.{AreLabelled, sorted_are_all, sorted_rise}
 use Rattle.cd_kernel.proofs.GoodPatterns.{IsGood, AreGood, AreGoodFields, IsGoodRegular}
 use Rattle.cd_kernel.proofs.GoodPatterns.{AreGoodRegulars}
@@ -125,49 +125,6 @@ module _ (variables : List Name) (final : Nodes) where
   put_is true name node nodes named keeps =
       (numbered variables name, named, is_put (node (numbered variables name)) nodes final keeps)
   put_is false name node nodes named keeps = is_put (Test ANY) nodes final keeps
-
-  -- each pattern with the number of its node
-  abbrev AreKernels : (keeps : Name → Bool) → Patterns NodeId → List ℕ → Type 0
-  AreKernels keeps NoPattern numbers = numbers ≡ []
-  AreKernels keeps (APattern p rest) numbers = (first : ℕ) × (others : List ℕ)
-      × (numbers ≡ first ∷ others) × IsKernel keeps p first × AreKernels keeps rest others
-
-  module _ (keeps : Name → Bool) where
-    both_are : (p : Pattern NodeId) (rest : Patterns NodeId) (numbers : List ℕ) (number : ℕ)
-        → AreKernels keeps (APattern p rest) numbers → IsChainOf final Both numbers number
-        → IsBothOf the_types variables final keeps (APattern p rest) number
-    both_are p NoPattern numbers number are chain =
-        let is = subst (λ (list : List ℕ). IsChainOf final Both list number)
-        (are.2 ∙ ap (are.0 ∷◌) are.4) chain in
-        subst (IsKernel keeps p) is are.3
-    both_are p (APattern next rest) numbers number are chain =
-        let is = subst (λ (list : List ℕ). IsChainOf final Both list number)
-        (are.2 ∙ ap (are.0 ∷◌) are.4.2) chain in (
-          are.0,
-          is.0,
-          is.1,
-          are.3,
-          both_are next rest are.1 is.0 are.4
-              (subst (λ (list : List ℕ). IsChainOf final Both list is.0) (sym are.4.2) is.2),
-        )
-
-    first_are : (p : Pattern NodeId) (rest : Patterns NodeId) (numbers : List ℕ) (number : ℕ)
-        → AreKernels keeps (APattern p rest) numbers → IsChainOf final First numbers number
-        → IsFirstOf the_types variables final keeps (APattern p rest) number
-    first_are p NoPattern numbers number are chain =
-        let is = subst (λ (list : List ℕ). IsChainOf final First list number)
-        (are.2 ∙ ap (are.0 ∷◌) are.4) chain in
-        subst (IsKernel keeps p) is are.3
-    first_are p (APattern next rest) numbers number are chain =
-        let is = subst (λ (list : List ℕ). IsChainOf final First list number)
-        (are.2 ∙ ap (are.0 ∷◌) are.4.2) chain in (
-          are.0,
-          is.0,
-          is.1,
-          are.3,
-          first_are next rest are.1 is.0 are.4
-              (subst (λ (list : List ℕ). IsChainOf final First list is.0) (sym are.4.2) is.2),
-        )
 
   -- the nodes of some patterns, and the fields of some fields
   abbrev numbers_in : Bool → Patterns NodeId → Nodes → List ℕ
@@ -288,6 +245,15 @@ module _ (variables : List Name) (final : Nodes) where
 
   abbrev pub Stays : Nodes → Type 0
   Stays nodes = Keeps nodes final
+
+  -- what is put for some nodes is their chain, or a test where there is none
+  chain_or_is : (node : ℕ → ℕ → KernelNode NodeId) (none : NodeId) (numbers : List ℕ)
+      (nodes : Nodes) → Stays (chained node none numbers nodes).1
+      → IsChainOr the_types variables final node none numbers
+      (chained node none numbers nodes).0
+  chain_or_is node none [] nodes stay = is_put (Test none) nodes final stay
+  chain_or_is node none (first ∷ rest) nodes stay =
+      chained_is node none final first rest nodes stay
 
   -- the first copy keeps what its items bind, and the others keep nothing
   pub inner_fits : (keeps : Name → Bool) (kept : Bool) (r : Regular NodeId) (copy : Copy)
@@ -411,34 +377,29 @@ module _ (variables : List Name) (final : Nodes) where
               (λ n x h. stay n x
               (keeps_more made.1 (Record (sorted_over made.0 []) more ∷ []) n x h)),
         )
-    pattern_is keeps kept (pattern.Both NoPattern) nodes good fits stay =
-        is_put (Test ANY) nodes final stay
-    pattern_is keeps kept (pattern.Both (APattern p rest)) nodes good fits stay =
-        let made = built_all variables kept (APattern p rest) [] nodes in
-        let several = all_are_made variables kept (APattern p rest) [] nodes tt in
-        let is = numbers_are kept (APattern p rest) [] nodes in
-        both_are keeps p rest made.0 (chained Both ANY made.0 made.1).0
-        (subst (AreKernels keeps (APattern p rest)) (sym is)
-        (all_are keeps kept (APattern p rest) [] nodes tt good fits (λ n x h. stay n x
-        ((chained_is_made Both both_joins ANY made.0 made.1 several.there).grows.keeps n x h))))
-        (subst (λ (list : List ℕ). Stays (chained Both ANY list made.1).1
-        → IsChainOf final Both list (chained Both ANY list made.1).0) (sym is)
-        (chained_is final Both ANY (built variables kept p nodes).0
-        (numbers_in kept rest (built variables kept p nodes).1) made.1) stay)
-    pattern_is keeps kept (pattern.First NoPattern) nodes good fits stay =
-        is_put (Test EMPTY) nodes final stay
-    pattern_is keeps kept (pattern.First (APattern p rest)) nodes good fits stay =
-        let made = built_all variables kept (APattern p rest) [] nodes in
-        let several = all_are_made variables kept (APattern p rest) [] nodes tt in
-        let is = numbers_are kept (APattern p rest) [] nodes in
-        first_are keeps p rest made.0 (chained First EMPTY made.0 made.1).0
-        (subst (AreKernels keeps (APattern p rest)) (sym is)
-        (all_are keeps kept (APattern p rest) [] nodes tt good fits (λ n x h. stay n x
-        ((chained_is_made First first_joins EMPTY made.0 made.1 several.there).grows.keeps n x h))))
-        (subst (λ (list : List ℕ). Stays (chained First EMPTY list made.1).1
-        → IsChainOf final First list (chained First EMPTY list made.1).0) (sym is)
-        (chained_is final First EMPTY (built variables kept p nodes).0
-        (numbers_in kept rest (built variables kept p nodes).1) made.1) stay)
+    pattern_is keeps kept (pattern.Both all) nodes good fits stay =
+        let made = built_all variables kept all [] nodes in
+        let several = all_are_made variables kept all [] nodes tt in
+        let is = numbers_are kept all [] nodes in (
+          numbers_in kept all nodes,
+          all_are keeps kept all [] nodes tt good fits (λ n x h. stay n x
+              ((chained_is_made Both both_joins ANY made.0 made.1 several.there).grows.keeps n x h)),
+          subst (λ (list : List ℕ). IsChainOr the_types variables final Both ANY list
+              (chained Both ANY made.0 made.1).0) is
+              (chain_or_is Both ANY made.0 made.1 stay),
+        )
+    pattern_is keeps kept (pattern.First all) nodes good fits stay =
+        let made = built_all variables kept all [] nodes in
+        let several = all_are_made variables kept all [] nodes tt in
+        let is = numbers_are kept all [] nodes in (
+          numbers_in kept all nodes,
+          all_are keeps kept all [] nodes tt good fits (λ n x h. stay n x
+              ((chained_is_made First first_joins EMPTY made.0 made.1 several.there).grows.keeps n x
+              h)),
+          subst (λ (list : List ℕ). IsChainOr the_types variables final First EMPTY list
+              (chained First EMPTY made.0 made.1).0) is
+              (chain_or_is First EMPTY made.0 made.1 stay),
+        )
     pattern_is keeps kept (pattern.Sequence r) nodes good fits stay =
         let made = by_items keeps kept r nodes good fits
         (λ copy plain at after. items_are (inner keeps r copy) kept r [] at 0 refl good.2
@@ -452,16 +413,13 @@ module _ (variables : List Name) (final : Nodes) where
     all_are : (keeps : Name → Bool) (kept : Bool) (all : Patterns NodeId) (numbers : List ℕ)
         (nodes : Nodes) → AreThere numbers nodes → AreGood all → Fits keeps kept (all_bind all)
         → Stays (built_all variables kept all numbers nodes).1
-        → AreKernels keeps all (numbers_in kept all nodes)
-    all_are keeps kept NoPattern numbers nodes there good fits stay = refl
+        → AreKernelsOf the_types variables final keeps all (numbers_in kept all nodes)
+    all_are keeps kept NoPattern numbers nodes there good fits stay = tt
     all_are keeps kept (APattern p rest) numbers nodes there good fits stay =
         let one = built variables kept p nodes in
         let made = pattern_is_made variables kept p nodes in
         let later = there_end numbers one.0 one.1
         (there_later numbers nodes one.1 made.grows.longer there) made.there in (
-          one.0,
-          numbers_in kept rest one.1,
-          refl,
           pattern_is keeps kept p nodes good.0
               (λ name b. fits name (or_left (binds p name) (all_bind rest name) b))
               (λ n x h. stay n x ((all_are_made variables kept rest (numbers ++ one.0 ∷ []) one.1

@@ -1,24 +1,24 @@
 -- Making the node of a pattern keeps the nodes that were there.
-use Rattle.std.proofs.Common.{◌≡◌, ◌<◌, ◌≤◌, ℕ, Bool, true, false, List, [], ◌∷◌, ◌++◌, length}
-use Rattle.std.proofs.Common.{Some, None, refl, sym, subst, arith}
-use Rattle.std.proofs.lemmas.Option.{none-some, same_Some}
+use Rattle.std.proofs.Common.{◌≡◌, ◌<◌, ◌≤◌, ◌/◌, ℕ, zero, suc, Bool, true, false, List, [], ◌∷◌}
+use Rattle.std.proofs.Common.{◌++◌, length, take, drop, refl, sym, subst, arith}
+use Rattle.std.proofs.lemmas.List.{take-append-drop}
 use Rattle.cd_sets.specs.declared.node_id.NodeId.{NodeId}
 use Rattle.cd_syntax.specs.Name.{Name}
 use Rattle.cd_model.specs.AllOf.{AllOf}
 use Rattle.cd_model.specs.BuiltIns.{ANY, EMPTY}
+use Rattle.cd_model.proofs.Covered.{each_parts}
 use Rattle.cd_matching.specs.Kernel.{KernelNode, Present as APresent, Optional as AnOptional, Test}
 use Rattle.cd_matching.specs.Kernel.{Bind, Put, Pair, Xml, Record, Both, First, leads_to}
 use Rattle.cd_matching.specs.Pattern as pattern
 use Rattle.cd_matching.specs.Pattern.{Pattern, Patterns, NoPattern, APattern, Fields, NoField}
 use Rattle.cd_matching.specs.Pattern.{Regular, Regulars, NoRegular, ARegular}
-use Rattle.cd_kernel.specs.Inner.Building.{Nodes, put, put_if, Chain, linked, chain_of}
-use Rattle.cd_kernel.specs.Inner.Building.{or_put, chained, Several, joined, KernelFields}
+use Rattle.cd_kernel.specs.Inner.Building.{Nodes, put, put_if, chain_within, chained, Several}
+use Rattle.cd_kernel.specs.Inner.Building.{joined, KernelFields}
 use Rattle.cd_kernel.specs.Inner.Building.{sorted_over, put_copy, put_copies, built}
 use Rattle.cd_kernel.specs.Inner.Building.{built_all, built_fields, built_items, built_items_all}
 use Rattle.cd_kernel.specs.Inner.Gathering.{numbered, groups_of}
 use Rattle.cd_kernel.proofs.CopiesBuilt.{copy_is_made}
 use Rattle.cd_kernel.proofs.GrowingNodes.{Grows, Made, grows_not, grows_on, made_on, put_is_made}
-use Rattle.cd_kernel.proofs.RowsBuilt.{ChainMade}
 
 -- the numbers are those of nodes
 abbrev pub AreThere : List ℕ → Nodes → Type 0
@@ -40,44 +40,37 @@ there_end (first ∷ numbers) number nodes all one = (all.0, there_end numbers n
 abbrev pub Joins : (ℕ → ℕ → KernelNode NodeId) → Type 0
 Joins node = (first second : ℕ) → leads_to (node first second) ≡ first ∷ second ∷ []
 
-module _ (node : ℕ → ℕ → KernelNode NodeId) (joins : Joins node) where
-  linked_is_made : (number : ℕ) (old : Nodes) (chain : Chain) → number < length chain.1
-      → ChainMade old chain → ChainMade old (linked node number chain)
-  linked_is_made number old (None, nodes) there made = record {
-    grows = made.grows;
-    there = λ n h. subst (λ (m : ℕ). m < length nodes) (same_Some number n h) there;
-  }
-  linked_is_made number old (Some rest, nodes) there made =
-      let one = put_is_made (node number rest) nodes
-      (subst (λ (led : List ℕ). AllOf (λ next. next < length nodes) led)
-      (sym (joins number rest)) (there, (made.there rest refl, tt))) in
-      record {
-        grows = grows_on old nodes (put (node number rest) nodes).1 made.grows one.grows;
-        there = λ n h. subst (λ (m : ℕ). m < length (put (node number rest) nodes).1)
-            (same_Some (length nodes) n h) one.there;
-      }
+module _ (node : ℕ → ℕ → KernelNode NodeId) (joins : Joins node) (none : NodeId) where
+  chain_is_made : (steps : ℕ) (numbers : List ℕ) (nodes : Nodes) → AreThere numbers nodes
+      → Made nodes (chain_within steps node none numbers nodes)
+  chain_is_made steps [] nodes there = put_is_made (Test none) nodes tt
+  chain_is_made steps (number ∷ []) nodes there =
+      record { grows = grows_not nodes; there = there.0 }
+  chain_is_made zero (number ∷ next ∷ numbers) nodes there =
+      record { grows = grows_not nodes; there = there.0 }
+  chain_is_made (suc steps) (number ∷ next ∷ numbers) nodes there =
+      let all = number ∷ next ∷ numbers in
+      let front = take (length all / 2) all in
+      let back = drop (length all / 2) all in
+      let parts = each_parts (λ number. number < length nodes) front back
+      (subst (λ (list : List ℕ). AreThere list nodes) (sym (take-append-drop (length all / 2) all))
+      there) in
+      let first = chain_within steps node none front nodes in
+      let made = chain_is_made steps front nodes parts.0 in
+      let second = chain_within steps node none back first.1 in
+      let other = chain_is_made steps back first.1
+      (there_later back nodes first.1 made.grows.longer parts.1) in
+      let first_there = made.there in
+      let longer = other.grows.longer in
+      made_on nodes second.1 (put (node first.0 second.0) second.1)
+      (grows_on nodes first.1 second.1 made.grows other.grows)
+      (put_is_made (node first.0 second.0) second.1
+      (subst (λ (led : List ℕ). AllOf (λ next. next < length second.1) led)
+      (sym (joins first.0 second.0)) (omega (arith, first_there, longer), (other.there, tt))))
 
-  chain_is_made : (numbers : List ℕ) (nodes : Nodes) → AreThere numbers nodes
-      → ChainMade nodes (chain_of node numbers nodes)
-  chain_is_made [] nodes all =
-      record { grows = grows_not nodes; there = λ number h. absurd (none-some number h) }
-  chain_is_made (number ∷ numbers) nodes all =
-      let rest = chain_is_made numbers nodes all.1 in
-      let longer = rest.grows.longer in
-      let there = all.0 in
-      linked_is_made number nodes (chain_of node numbers nodes) (omega (arith, there, longer)) rest
-
-  or_put_is_made : (none : NodeId) (old : Nodes) (chain : Chain) → ChainMade old chain
-      → Made old (or_put (Test none) chain)
-  or_put_is_made none old (Some number, nodes) made =
-      record { grows = made.grows; there = made.there number refl }
-  or_put_is_made none old (None, nodes) made =
-      made_on old nodes (put (Test none) nodes) made.grows (put_is_made (Test none) nodes tt)
-
-  pub chained_is_made : (none : NodeId) (numbers : List ℕ) (nodes : Nodes)
-      → AreThere numbers nodes → Made nodes (chained node none numbers nodes)
-  chained_is_made none numbers nodes all = or_put_is_made none nodes (chain_of node numbers nodes)
-      (chain_is_made numbers nodes all)
+  pub chained_is_made : (numbers : List ℕ) (nodes : Nodes) → AreThere numbers nodes
+      → Made nodes (chained node none numbers nodes)
+  chained_is_made numbers = chain_is_made (length numbers) numbers
 
 -- several nodes that are made
 pub record SeveralMade (old : Nodes) (made : Several) : Type 0 where

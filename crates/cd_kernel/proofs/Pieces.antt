@@ -1,7 +1,7 @@
 -- What a node of a kernel may be made of, with the variables that it binds; and what is shown of
 -- it: which node it is, and what the nodes are made of that this one leads to.
 use Rattle.std.proofs.Common.{◌≡◌, ℕ, Bool, true, false, ◌||◌, ◌&&◌, List, [], ◌∷◌}
-use Rattle.std.proofs.Common.{None, sym, ap₂, ◌∙◌, bytes_eq}
+use Rattle.std.proofs.Common.{map, None, sym, ap₂, ◌∙◌, bytes_eq}
 use Rattle.std.proofs.lemmas.Bool.{true≢false, and_parts, and_from}
 use Rattle.std.proofs.lemmas.Bool.{false_from_ne_true}
 use Rattle.cd_syntax.specs.Name.{Name}
@@ -11,19 +11,15 @@ use Rattle.cd_model.specs.AllOf.{AllOf}
 use Rattle.cd_model.specs.Formula.{AreRisingLabels}
 use Rattle.cd_matching.specs.Kernel.{KernelNode, KernelField, Present, Optional, Test, Bind, Put}
 use Rattle.cd_matching.specs.Kernel.{Pair, Xml, Record, Both, First, Gather, variables_of}
-use Rattle.cd_matching.specs.Naming.{AreDisjointNames, AreSame, IsNamed, AreNamedDisjoint}
-use Rattle.cd_matching.specs.Naming.{AreNamedSame}
-use Rattle.cd_matching.specs.Pattern.{Pattern, Patterns}
-use Rattle.cd_matching.specs.Pattern.{Regular, Sequence}
+use Rattle.cd_matching.specs.Naming.{AreDisjointNames, AreSame, IsNamed}
+use Rattle.cd_matching.specs.Pattern.{Pattern, Regular, Sequence}
 use Rattle.cd_matching.specs.Sequences.{thing_of}
-use Rattle.cd_matching.specs.Variables.{binds, all_bind, is_gathered, is_plain}
+use Rattle.cd_matching.specs.Variables.{binds, is_gathered, is_plain}
 use Rattle.cd_moves.specs.Automaton.{Move, items_of}
 use Rattle.cd_kernel.specs.Copies.{Types, IsAt, IsNumber, is_among, AreDistinct, Copy}
-use Rattle.cd_kernel.specs.Copies.{AreDisjoint, ArePut, IsMove}
-use Rattle.cd_kernel.specs.Copies.{IsState, IsCopy, AreJoined}
-use Rattle.cd_kernel.specs.Making.{inner, IsKernelOf, IsBothOf, IsFirstOf}
-use Rattle.cd_kernel.proofs.CompletePatterns.{IsComplete, AreComplete}
-use Rattle.cd_kernel.proofs.CompletePatterns.{IsCompleteRegular}
+use Rattle.cd_kernel.specs.Copies.{ArePut, IsMove, IsState, IsCopy}
+use Rattle.cd_kernel.specs.Making.{inner, IsKernelOf}
+use Rattle.cd_kernel.proofs.CompletePatterns.{IsComplete, IsCompleteRegular}
 use Rattle.cd_kernel.proofs.AnyOrder.{EachTwo}
 use Rattle.cd_kernel.proofs.ItemsByNumber.{ItemsHave}
 use Rattle.cd_kernel.proofs.PlainVariables.{Names, either, none, BindsBy, BindsFrom}
@@ -60,15 +56,18 @@ kept_disjoint keeps one other apart name h =
     let parts = and_parts (keeps name) (one name) h in
     ap₂ (λ (a b : Bool). a && b) parts.0 (apart name parts.1)
 
+-- what one of these binds
+abbrev pub any_of : List Names → Names
+any_of [] = none
+any_of (bound ∷ more) = either bound (any_of more)
+
 -- what each node of a copy binds, where plain variables are bound from it on
 abbrev pub copy_binds : {T : Type 0} → (keeps : Names) → Regular T → Copy → (plain : Names) → Names
 copy_binds keeps r copy plain name = is_among copy.group name
     || (inner keeps r copy name && plain name)
 
 abbrev pub copies_bind : {T : Type 0} → (keeps : Names) → Regular T → List Copy → Names
-copies_bind keeps r [] = none
-copies_bind keeps r (copy ∷ copies) =
-    either (copy_binds keeps r copy (is_plain r)) (copies_bind keeps r copies)
+copies_bind keeps r copies = any_of (map (λ copy. copy_binds keeps r copy (is_plain r)) copies)
 
 abbrev pub HasMove : List Move → Type 0
 HasMove [] = ⊥
@@ -101,12 +100,11 @@ module _ {T : Type 0} (IsType : T → Type 0) (types : Types T) (variables : Lis
         → Piece (λ other. bytes_eq other name) number
     made : (keeps : Names) (p : Pattern T) (number : ℕ) → ItemMade keeps p number
         → Piece (kept_of keeps (binds p)) number
-    both_of : (keeps : Names) (all : Patterns T) (number : ℕ)
-        → IsBothOf types variables nodes keeps all number → AreNamedDisjoint all
-        → AreComplete IsType all → Piece (kept_of keeps (all_bind all)) number
-    first_of : (keeps : Names) (all : Patterns T) (number : ℕ)
-        → IsFirstOf types variables nodes keeps all number → AreNamedSame all
-        → AreComplete IsType all → Piece (kept_of keeps (all_bind all)) number
+    both_of : (first second : Names) (one other number : ℕ) → IsAt nodes number (Both one other)
+        → Piece first one → Piece second other → AreDisjointNames first second
+        → Piece (either first second) number
+    first_of : (bound : Names) (one other number : ℕ) → IsAt nodes number (First one other)
+        → Piece bound one → Piece bound other → Piece bound number
     puts_of : (type : T) (names : List Name) (number : ℕ)
         → ArePut types variables nodes type names number → IsType type → AreDistinct names
         → Piece (is_among names) number
@@ -118,9 +116,6 @@ module _ {T : Type 0} (IsType : T → Type 0) (types : Types T) (variables : Lis
         (number : ℕ) → IsCopyOf keeps r copy
         → IsMove types variables nodes copy (items_of [] r) move number
         → BindsBy r plain move → Piece (copy_binds keeps r copy plain) number
-    joined_of : (keeps : Names) (r : Regular T) (copies : List Copy) (number : ℕ)
-        → AreJoined types variables nodes copies number → AllOf (IsCopyOf keeps r) copies
-        → AreDisjoint copies → Piece (copies_bind keeps r copies) number
 
   abbrev pub Allowed : Names → ℕ → Type 0
   Allowed bound variable =

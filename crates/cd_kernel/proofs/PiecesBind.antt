@@ -1,6 +1,6 @@
 -- What a node is made of binds all of its variables.
-use Rattle.std.proofs.Common.{◌≡◌, ℕ, ◌+◌, Bool, true, false, not, ◌||◌, ◌&&◌, List, [], ◌∷◌, ◌⊎◌}
-use Rattle.std.proofs.Common.{inl, inr, Option, Some, None, refl, sym, ap, subst, ◌∙◌, bytes_eq}
+use Rattle.std.proofs.Common.{◌≡◌, ℕ, ◌+◌, Bool, true, false, not, ◌||◌, ◌&&◌, List, [], ◌∷◌, ◌++◌}
+use Rattle.std.proofs.Common.{map, ◌⊎◌, inl, inr, Option, Some, None, refl, sym, ap, subst, ◌∙◌, bytes_eq}
 use Rattle.std.proofs.Common.{get_or}
 use Rattle.std.specs.List.{slice_get}
 use Rattle.std.specs.Option.{unwrap_or}
@@ -9,13 +9,12 @@ use Rattle.std.proofs.lemmas.Option.{same_Some}
 use Rattle.cd_syntax.specs.Name.{Name}
 use Rattle.cd_syntax.specs.declared.constant.Constant.TheVariants as constant
 use Rattle.cd_model.specs.AllOf.{AllOf, AnyOf}
-use Rattle.cd_model.proofs.Ones.{each_weaker}
+use Rattle.cd_model.proofs.Ones.{each_weaker, one_on_a_side}
 use Rattle.cd_matching.specs.Kernel.{KernelNode, KernelField, Present, Optional, Bind, Put, Pair}
-use Rattle.cd_matching.specs.Kernel.{Xml, Record, Both, First, Gather, field_nodes, variables_of}
-use Rattle.cd_matching.specs.Kernel.{Binds, itself, further, number_of}
-use Rattle.cd_matching.specs.Naming.{IsNamed, AreNamedDisjoint, AreNamedSame, AreNamedAs}
-use Rattle.cd_matching.specs.Naming.{AreNamedFields, IsNamedRegular, AreNamedInTurn, AreNamedEither}
-use Rattle.cd_matching.specs.Naming.{AreNamedLike}
+use Rattle.cd_matching.specs.Kernel.{Xml, Record, Both, First, Gather, field_nodes, leads_to}
+use Rattle.cd_matching.specs.Kernel.{parts_of, variables_of, Binds, itself, further, number_of}
+use Rattle.cd_matching.specs.Naming.{IsNamed, AreNamedFields, IsNamedRegular, AreNamedInTurn}
+use Rattle.cd_matching.specs.Naming.{AreNamedEither, AreNamedLike}
 use Rattle.cd_matching.specs.Pattern as pattern
 use Rattle.cd_matching.specs.Pattern.{Pattern, Patterns, NoPattern, APattern, Fields, NoField}
 use Rattle.cd_matching.specs.Pattern.{Regular, Regulars, NoRegular, ARegular, Sequence}
@@ -24,18 +23,20 @@ use Rattle.cd_matching.specs.Variables.{regular_binds}
 use Rattle.cd_matching.proofs.BoundVariables.{gathered_or_plain}
 use Rattle.cd_moves.specs.Automaton.{Move, End, To, ItemOf, items_in, items_of, first_moves, once}
 use Rattle.cd_moves.specs.Automaton.{rows_of}
+use Rattle.cd_kernel.specs.Chains.{IsChain, one_node, two_chains}
 use Rattle.cd_kernel.specs.Copies as copies
 use Rattle.cd_kernel.specs.Copies.{Types, AreTypes, IsAt, IsNumber, is_among, gatherer, Copy}
 use Rattle.cd_kernel.specs.Copies.{in_a_group, ArePut, IsStep, IsMove, IsState, AreJoined}
-use Rattle.cd_kernel.specs.Making.{inner, IsPut, AreCopies, IsKernelOf, IsBothOf}
-use Rattle.cd_kernel.specs.Making.{IsFirstOf, AreFieldsOf, AreItemsOf, AreItemsOfAll}
+use Rattle.cd_kernel.specs.Making.{inner, IsChainOr, IsPut, AreCopies, IsKernelOf, AreKernelsOf}
+use Rattle.cd_kernel.specs.Making.{AreFieldsOf, AreItemsOf, AreItemsOfAll}
 use Rattle.cd_kernel.proofs.CompletePatterns.{IsComplete, AreComplete, AreCompleteFields}
 use Rattle.cd_kernel.proofs.CompletePatterns.{IsCompleteRegular, AreCompleteRegulars}
 use Rattle.cd_kernel.proofs.AnyOrder.{all_among, any_reordered}
 use Rattle.cd_kernel.proofs.ItemsByNumber.{ItemsHave, AllItemsHave, item_has}
+use Rattle.cd_kernel.proofs.NamedParts.{AreNamed, disjoint_named, same_named}
 use Rattle.cd_kernel.proofs.Pieces.{Within, kept_of, copy_binds, copies_bind, HasMove}
 use Rattle.cd_kernel.proofs.Pieces.{ItemMade, IsCopyOf, Piece, test_of, put_of, made, both_of}
-use Rattle.cd_kernel.proofs.Pieces.{first_of, puts_of, state_of, move_of, joined_of}
+use Rattle.cd_kernel.proofs.Pieces.{first_of, puts_of, state_of, move_of}
 use Rattle.cd_kernel.proofs.CopyPieces.{row_there, copies_of}
 use Rattle.cd_kernel.proofs.PlainVariables.{Names, none, afters, BindsBy, BindsFrom}
 use Rattle.cd_kernel.proofs.PlainVariables.{start_binds, row_binds}
@@ -195,26 +196,51 @@ module _ {T : Type 0} (IsType : T → Type 0) (types : Types T) (variables : Lis
         (λ one is. move_binds plain move fits.0 one is name variable is_number h) (move ∷ moves)
         number state (inl refl)
 
+  -- what a node of a chain binds, the chain does
+  module _ (joint : ℕ → ℕ → KernelNode T)
+      (to_first : (first second : ℕ) → AnyOf (λ other. other ≡ first)
+      (leads_to (joint first second) ++ parts_of (joint first second)))
+      (to_second : (first second : ℕ) → AnyOf (λ other. other ≡ second)
+      (leads_to (joint first second) ++ parts_of (joint first second))) (variable : ℕ) where
+    members_bind : (numbers : List ℕ) (number : ℕ) → IsChain nodes joint numbers number
+        → AnyOf (Binds nodes variable) numbers → Binds nodes variable number
+    members_bind _ _ (one_node number) (inl here) = here
+    members_bind _ _ (one_node number) (inr later) = absurd later
+    members_bind _ _ (two_chains front back first second number there one other) any =
+        elim (one_on_a_side (Binds nodes variable) front back any) [
+          | inl here ↦ further number first (joint first second) there (to_first first second)
+              (members_bind front first one here)
+          | inr later ↦ further number second (joint first second) there (to_second first second)
+              (members_bind back second other later)
+        ]
+
+    chain_of_members : (type : T) (numbers : List ℕ) (number : ℕ)
+        → IsChainOr types variables nodes joint type numbers number
+        → AnyOf (Binds nodes variable) numbers → Binds nodes variable number
+    chain_of_members type [] number there any = absurd any
+    chain_of_members type (first ∷ rest) number chain any =
+        members_bind (first ∷ rest) number chain any
+
+  starts_bind : (keeps : Names) (r : Regular T) (all : List Copy)
+      → AllOf (λ copy. BindsAll (copy_binds keeps r copy (is_plain r)) copy.start) all
+      → (name : Name) (variable : ℕ) → IsNumber variables name variable
+      → copies_bind keeps r all name ≡ true
+      → AnyOf (Binds nodes variable) (map (λ copy. copy.start) all)
+  starts_bind keeps r [] each name variable is_number h = absurd (true≢false (sym h))
+  starts_bind keeps r (copy ∷ all) each name variable is_number h =
+      elim (or_cases (copy_binds keeps r copy (is_plain r) name) (copies_bind keeps r all name) h) [
+        | inl here ↦ inl (each.0 name variable is_number here)
+        | inr later ↦ inr (starts_bind keeps r all each.1 name variable is_number later)
+      ]
+
   joined_bind : (keeps : Names) (r : Regular T) (all : List Copy) (number : ℕ)
       → AreJoined types variables nodes all number
       → AllOf (λ copy. BindsAll (copy_binds keeps r copy (is_plain r)) copy.start) all
       → BindsAll (copies_bind keeps r all) number
-  joined_bind keeps r [] number joined each name variable is_number h = absurd joined
-  joined_bind keeps r (copy ∷ []) number joined each name variable is_number h =
-      subst (Binds nodes variable) joined (each.0 name variable is_number
-      (no_false (copy_binds keeps r copy (is_plain r) name) h))
-    where
-      no_false : (b : Bool) → (b || false) ≡ true → b ≡ true
-      no_false true h = refl
-      no_false false h = h
-  joined_bind keeps r (copy ∷ next ∷ all) number (other, there, joined) each name variable
-      is_number h = elim (or_cases (copy_binds keeps r copy (is_plain r) name)
-      (copies_bind keeps r (next ∷ all) name) h) [
-        | inl here ↦ further number copy.start (Both copy.start other) there (inl refl)
-            (each.0 name variable is_number here)
-        | inr later ↦ further number other (Both copy.start other) there (inr (inl refl))
-            (joined_bind keeps r (next ∷ all) other joined each.1 name variable is_number later)
-      ]
+  joined_bind keeps r all number joined each name variable is_number h =
+      members_bind Both (λ first second. inl refl) (λ first second. inr (inl refl)) variable
+      (map (λ copy. copy.start) all) number joined
+      (starts_bind keeps r all each name variable is_number h)
 
   -- a variable of a sequence is bound by one of the copies
   group_binds : (keeps : Names) (r : Regular T) (all : List Copy)
@@ -350,10 +376,16 @@ module _ {T : Type 0} (IsType : T → Type 0) (types : Types T) (variables : Lis
         let found = field_binds variable rising (any_reordered (FieldBinds variable) written rising
         order (fields_made keeps fields written are named.2 fits name variable is_number h)) in
         further number found.0 (Record rising more) there found.1 found.2
-    binds_made keeps (pattern.Both all) number there named fits =
-        binds_both keeps all number there named fits
-    binds_made keeps (pattern.First all) number there named fits =
-        binds_first keeps all number there named fits
+    binds_made keeps (pattern.Both all) number (numbers, are, chain) named fits =
+        λ name variable is_number h.
+        chain_of_members Both (λ first second. inl refl) (λ first second. inr (inl refl)) variable
+        types.any numbers number chain
+        (some_bind keeps all numbers are (disjoint_named all named) fits name variable is_number h)
+    binds_made keeps (pattern.First all) number (numbers, are, chain) named fits =
+        λ name variable is_number h.
+        chain_of_members First (λ first second. inl refl) (λ first second. inr (inl refl)) variable
+        types.empty numbers number chain
+        (some_bind keeps all numbers are (same_named all named) fits name variable is_number h)
     binds_made keeps (pattern.Sequence r) number (all, are, items) named fits =
         λ name variable is_number h.
         joined_bind keeps r all number are.joined
@@ -367,65 +399,22 @@ module _ {T : Type 0} (IsType : T → Type 0) (types : Types T) (variables : Lis
         variable is_number
         (sequence_within keeps r all number are named name h)
 
-    binds_both : (keeps : Names) (all : Patterns T) (number : ℕ)
-        → IsBothOf types variables nodes keeps all number → AreNamedDisjoint all
-        → AreComplete IsType all → BindsAll (kept_of keeps (all_bind all)) number
-    binds_both keeps NoPattern number there named fits = λ name variable is_number h.
+    some_bind : (keeps : Names) (all : Patterns T) (numbers : List ℕ)
+        → AreKernelsOf types variables nodes keeps all numbers → AreNamed all
+        → AreComplete IsType all → (name : Name) (variable : ℕ) → IsNumber variables name variable
+        → (keeps name && all_bind all name) ≡ true → AnyOf (Binds nodes variable) numbers
+    some_bind keeps NoPattern numbers are named fits = λ name variable is_number h.
         absurd (true≢false (sym (and_parts (keeps name) false h).1))
-    binds_both keeps (APattern p NoPattern) number there named fits = λ name variable is_number h.
-        binds_made keeps p number there named.1 fits.0 name variable is_number
-        (no_false (keeps name) (binds p name) h)
-      where
-        no_false : (k b : Bool) → (k && (b || false)) ≡ true → (k && b) ≡ true
-        no_false true true h = refl
-        no_false true false h = h
-        no_false false b h = h
-    binds_both keeps (APattern p (APattern next rest)) number (one, other, there, a, b) named fits =
+    some_bind keeps (APattern p rest) [] are named fits = absurd are
+    some_bind keeps (APattern p rest) (number ∷ numbers) are named fits =
         λ name variable is_number h.
-        let parts = and_parts (keeps name)
-        (binds p name || all_bind (APattern next rest) name) h in
-        elim (or_cases (binds p name) (all_bind (APattern next rest) name) parts.1) [
-          | inl here ↦ further number one (Both one other) there (inl refl)
-              (binds_made keeps p one a named.1 fits.0 name variable is_number
+        let parts = and_parts (keeps name) (binds p name || all_bind rest name) h in
+        elim (or_cases (binds p name) (all_bind rest name) parts.1) [
+          | inl here ↦ inl (binds_made keeps p number are.0 named.0 fits.0 name variable is_number
               (and_from (keeps name) (binds p name) parts.0 here))
-          | inr later ↦ further number other (Both one other) there (inr (inl refl))
-              (binds_both keeps (APattern next rest) other b named.2 fits.1 name variable is_number
-              (and_from (keeps name) (all_bind (APattern next rest) name) parts.0 later))
+          | inr later ↦ inr (some_bind keeps rest numbers are.1 named.1 fits.1 name variable
+              is_number (and_from (keeps name) (all_bind rest name) parts.0 later))
         ]
-
-    -- all alternatives bind the same, so the first does for all
-    binds_first : (keeps : Names) (all : Patterns T) (number : ℕ)
-        → IsFirstOf types variables nodes keeps all number → AreNamedSame all
-        → AreComplete IsType all → BindsAll (kept_of keeps (all_bind all)) number
-    binds_first keeps NoPattern number there named fits = λ name variable is_number h.
-        absurd (true≢false (sym (and_parts (keeps name) false h).1))
-    binds_first keeps (APattern p NoPattern) number there named fits = λ name variable is_number h.
-        binds_made keeps p number there named.0 fits.0 name variable is_number
-        (no_false (keeps name) (binds p name) h)
-      where
-        no_false : (k b : Bool) → (k && (b || false)) ≡ true → (k && b) ≡ true
-        no_false true true h = refl
-        no_false true false h = h
-        no_false false b h = h
-    binds_first keeps (APattern p (APattern next rest)) number (one, other, there, a, b) named fits
-        = λ name variable is_number h.
-        further number one (First one other) there (inl refl)
-        (binds_made keeps p one a named.0 fits.0 name variable is_number
-        (and_from (keeps name) (binds p name)
-        (and_parts (keeps name) (binds p name || all_bind (APattern next rest) name) h).0
-        (as_first (binds p) (APattern next rest) named.1 name
-        (or_cases (binds p name) (all_bind (APattern next rest) name)
-        (and_parts (keeps name) (binds p name || all_bind (APattern next rest) name) h).1))))
-      where
-        as_first : (bound : Names) (all : Patterns T) → AreNamedAs bound all → (name : Name)
-            → (bound name ≡ true) ⊎ (all_bind all name ≡ true) → bound name ≡ true
-        as_first bound all like name (inl here) = here
-        as_first bound NoPattern like name (inr later) = absurd (true≢false (sym later))
-        as_first bound (APattern q all) like name (inr later) =
-            elim (or_cases (binds q name) (all_bind all name) later) [
-              | inl here ↦ sym (like.0 name) ∙ here
-              | inr on ↦ as_first bound all like.2 name (inr on)
-            ]
 
     fields_made : (keeps : Names) (fields : Fields T) (written : List (Name × KernelField T))
         → AreFieldsOf types variables nodes keeps fields written → AreNamedFields fields
@@ -503,15 +492,6 @@ module _ {T : Type 0} (IsType : T → Type 0) (types : Types T) (variables : Lis
       of.items place number item is_number is_item in
       binds_made (inner keeps r copy) item.0 number is.0 is.1 is.2
 
-  each_of_copies : (keeps : Names) (r : Regular T) (all : List Copy)
-      → AllOf (IsCopyOf IsType types variables nodes keeps r) all
-      → AllOf (λ copy. BindsAll (copy_binds keeps r copy (is_plain r)) copy.start) all
-  each_of_copies keeps r [] of = tt
-  each_of_copies keeps r (copy ∷ all) of = (
-    start_binds_all keeps r copy of.0 (items_of_copy keeps r copy of.0),
-    each_of_copies keeps r all of.1,
-  )
-
   pub pieces_bind : (bound : Names) (number : ℕ) → Piece IsType types variables nodes bound number
       → BindsAll bound number
   pieces_bind _ _ (test_of type number there is) = λ name variable is_number h.
@@ -520,15 +500,19 @@ module _ {T : Type 0} (IsType : T → Type 0) (types : Types T) (variables : Lis
       itself number (Put its constant.Nil) there (inl (same_number name other its variable is_its
       is_number (sym (names_same other name h))))
   pieces_bind _ _ (made keeps p number is) = binds_made keeps p number is.0 is.1 is.2
-  pieces_bind _ _ (both_of keeps all number there named fits) =
-      binds_both keeps all number there named fits
-  pieces_bind _ _ (first_of keeps all number there named fits) =
-      binds_first keeps all number there named fits
+  pieces_bind _ _ (both_of first second one other number there p q apart) =
+      λ name variable is_number h. elim (or_cases (first name) (second name) h) [
+        | inl here ↦ further number one (Both one other) there (inl refl)
+            (pieces_bind first one p name variable is_number here)
+        | inr later ↦ further number other (Both one other) there (inr (inl refl))
+            (pieces_bind second other q name variable is_number later)
+      ]
+  pieces_bind _ _ (first_of bound one other number there p q) = λ name variable is_number h.
+      further number one (First one other) there (inl refl)
+      (pieces_bind bound one p name variable is_number h)
   pieces_bind _ _ (puts_of type names number there is distinct) = puts_bind type names number there
   pieces_bind _ _ (state_of keeps r copy plain moves number of there fits has) =
       first_move_binds keeps r copy of (items_of_copy keeps r copy of) plain moves has fits number
       there
   pieces_bind _ _ (move_of keeps r copy plain move number of there fits) =
       move_binds keeps r copy of (items_of_copy keeps r copy of) plain move fits number there
-  pieces_bind _ _ (joined_of keeps r all number joined of disjoint) =
-      joined_bind keeps r all number joined (each_of_copies keeps r all of)

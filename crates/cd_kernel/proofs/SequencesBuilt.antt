@@ -12,13 +12,14 @@ use Rattle.cd_matching.specs.Naming.{GathersDisjoint}
 use Rattle.cd_matching.specs.Pattern.{Regular}
 use Rattle.cd_matching.specs.Variables.{is_gathered}
 use Rattle.cd_moves.specs.Automaton.{items_of}
+use Rattle.cd_kernel.specs.Chains.{IsChain}
 use Rattle.cd_kernel.specs.Copies.{IsNumber, is_among, Copy, in_a_group, one_is_plain}
-use Rattle.cd_kernel.specs.Copies.{AreDisjoint, IsCopy, AreJoined}
+use Rattle.cd_kernel.specs.Copies.{AreDisjoint, IsCopy}
 use Rattle.cd_kernel.specs.Making.{the_types, inner, AreCopies, AreItemsOf}
 use Rattle.cd_kernel.specs.Inner.Building.{Nodes, Several, chained, put_copy, put_copies}
 use Rattle.cd_kernel.specs.Inner.Building.{put_sequence}
 use Rattle.cd_kernel.specs.Inner.Gathering.{groups_of, numbered}
-use Rattle.cd_kernel.proofs.ChainsBuilt.{IsChainOf, chained_is}
+use Rattle.cd_kernel.proofs.ChainsBuilt.{chained_is}
 use Rattle.cd_kernel.proofs.CopiesBuilt.{copy_put, is_copy, copy_is_made}
 use Rattle.cd_kernel.proofs.GroupsOfNames.{in_one_of, GroupsDisjoint, IsGroup, are_groups}
 use Rattle.cd_kernel.proofs.GrowingNodes.{Keeps, Grows, grows_not, grows_on}
@@ -87,14 +88,6 @@ module _ (variables : List Name) (r : Regular NodeId) where
         are_disjoint false others others groups copy.1 apart.1,
       )
 
-  are_joined : (final : Nodes) (all : List Copy) (number : ℕ)
-      → IsChainOf final Both (map (λ copy. copy.start) all) number
-      → AreJoined the_types variables final all number
-  are_joined final [] number chain = absurd chain
-  are_joined final (copy ∷ []) number chain = chain
-  are_joined final (copy ∷ next ∷ rest) number chain =
-      (chain.0, chain.1, are_joined final (next ∷ rest) chain.0 chain.2)
-
   module _ (final : Nodes) (keeps : Name → Bool) where
     abbrev pub HasItems : (plain : Bool) → Making → Type 0
     HasItems plain making = (copy : Copy) → copy.plain ≡ plain → (nodes : Nodes)
@@ -148,15 +141,13 @@ module _ (variables : List Name) (r : Regular NodeId) where
         (copies true first others (groups_of kept r) nodes)
     sequence_made kept first others nodes apart fits one other long long_too has has_too stay =
         let groups = are_groups variables keeps r kept fits in
-        let all = copies true first others (groups_of kept r) nodes in
         let made = put_copies variables r first others (groups_of kept r) [] nodes in
         let several = copies_are_made variables r first others one other (groups_of kept r) []
         nodes tt in
         let after = λ (n : ℕ) (x : KernelNode NodeId) (h : slice_get made.1 n ≡ Some x). stay n x
         ((chained_is_made Both both_joins ANY made.0 made.1 several.there).grows.keeps n x h) in (
           record {
-            joined = are_joined final all (chained Both ANY made.0 made.1).0
-                (chain_of_copies (groups_of kept r) groups.first groups.rest groups.are stay);
+            joined = chain_of_copies (groups_of kept r) groups.first groups.rest groups.are stay;
             each = copies_are true first others one other long long_too (groups_of kept r) [] nodes
                 groups.each after;
             groups = λ name. in_groups true first others (groups_of kept r) nodes name
@@ -177,18 +168,18 @@ module _ (variables : List Name) (r : Regular NodeId) where
         chain_from : (starts numbers : List ℕ) (number : ℕ) (rest : List ℕ) → numbers ≡ starts
             → starts ≡ number ∷ rest → (after : Nodes)
             → Keeps (chained Both ANY numbers after).1 final
-            → IsChainOf final Both starts (chained Both ANY numbers after).0
+            → IsChain final Both starts (chained Both ANY numbers after).0
         chain_from starts numbers number rest same is after stay =
-            subst (λ (list : List ℕ). IsChainOf final Both list (chained Both ANY numbers after).0)
+            subst (λ (list : List ℕ). IsChain final Both list (chained Both ANY numbers after).0)
             same (subst (λ (list : List ℕ). Keeps (chained Both ANY list after).1 final
-            → IsChainOf final Both list (chained Both ANY list after).0) (sym (same ∙ is))
-            (chained_is final Both ANY number rest after) stay)
+            → IsChain final Both list (chained Both ANY list after).0) (sym (same ∙ is))
+            (chained_is Both ANY final number rest after) stay)
 
         chain_of_copies : (groups : List (List Name)) (group : List Name)
             (rest : List (List Name)) → groups ≡ group ∷ rest
             → Keeps (chained Both ANY (put_copies variables r first others groups [] nodes).0
             (put_copies variables r first others groups [] nodes).1).1 final
-            → IsChainOf final Both
+            → IsChain final Both
             (map (λ copy. copy.start) (copies true first others groups nodes))
             (chained Both ANY (put_copies variables r first others groups [] nodes).0
             (put_copies variables r first others groups [] nodes).1).0

@@ -1,5 +1,5 @@
 -- Each node that is put for a sequence is reached, where its root and its states are.
-use Rattle.std.proofs.Common.{◌≡◌, ℕ, Bool, true, false, List, [], ◌∷◌, ◌++◌, length, Some, refl}
+use Rattle.std.proofs.Common.{◌≡◌, ℕ, Bool, true, false, List, [], ◌∷◌, ◌++◌, map, length, Some, refl}
 use Rattle.std.proofs.Common.{sym, subst}
 use Rattle.std.specs.List.{slice_get}
 use Rattle.cd_sets.specs.declared.node_id.NodeId.{NodeId}
@@ -19,7 +19,7 @@ use Rattle.cd_kernel.proofs.CopiesBuilt.{copy_put, copy_is_made, states_count}
 use Rattle.cd_kernel.proofs.CopiesBuilt.{starts_are_states}
 use Rattle.cd_kernel.proofs.GrowingNodes.{Keeps}
 use Rattle.cd_kernel.proofs.NodesReached.{AllReached, chained_reached, row_reached, rows_reached}
-use Rattle.cd_kernel.proofs.NodesReached.{first_reached, second_reached}
+use Rattle.cd_kernel.proofs.NodesReached.{members_reached}
 use Rattle.cd_kernel.proofs.PatternsMade.{both_joins, copies_are_made, chained_is_made}
 use Rattle.cd_kernel.proofs.RowsBuilt.{row_is_made}
 use Rattle.cd_kernel.proofs.SequencesBuilt.{Making, MakingGrows, copies, copies_grow}
@@ -45,14 +45,14 @@ module _ (variables : List Name) (r : Regular NodeId) where
     -- the first states of copies that are joined
     starts_reached : (all : List Copy) (number : ℕ) → AreJoined the_types variables final all number
         → Reached number → AllOf (λ copy. Reached copy.start) all
-    starts_reached [] number joined reached = tt
-    starts_reached (copy ∷ []) number joined reached = (subst Reached (sym joined) reached, tt)
-    starts_reached (copy ∷ next ∷ rest) number joined reached = (
-      first_reached final Reached on Both both_joins number copy.start joined.0 reached joined.1,
-      starts_reached (next ∷ rest) joined.0 joined.2
-          (second_reached final Reached on Both both_joins number copy.start joined.0 reached
-          joined.1),
-    )
+    starts_reached all number joined reached =
+        each_start all (members_reached final Reached on Both both_joins
+        (map (λ copy. copy.start) all) number joined reached)
+      where
+        each_start : (some : List Copy) → AllOf Reached (map (λ copy. copy.start) some)
+            → AllOf (λ copy. Reached copy.start) some
+        each_start [] each = tt
+        each_start (copy ∷ some) each = (each.0, each_start some each.1)
 
     copy_reached : (group : List Name) (items : Several)
         → Keeps (put_copy variables r group items).1 final

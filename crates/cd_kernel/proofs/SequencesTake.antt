@@ -1,6 +1,6 @@
 -- The copies of a sequence take it in the first way, and together have what that gives.
 use Rattle.std.proofs.Common.{◌≡◌, ℕ, Bool, true, false, not, ◌||◌, ◌&&◌, List, [], ◌∷◌}
-use Rattle.std.proofs.Common.{Option, Some, None, option_map, refl, sym, ap, ap₂, subst}
+use Rattle.std.proofs.Common.{map, Option, Some, None, option_map, refl, sym, ap, ap₂}
 use Rattle.std.proofs.Common.{◌∙◌, if◌then◌else◌}
 use Rattle.std.proofs.lemmas.Bool.{true≢false, or_left, or_right}
 use Rattle.cd_syntax.specs.Name.{Name}
@@ -20,12 +20,14 @@ use Rattle.cd_moves.specs.Automaton.{first_moves, once, run_whole}
 use Rattle.cd_kernel.specs.Copies.{Types, is_among, Copy, in_a_group, one_is_plain, IsCopy}
 use Rattle.cd_kernel.specs.Copies.{AreJoined}
 use Rattle.cd_kernel.specs.Making.{inner, AreCopies}
+use Rattle.cd_kernel.proofs.AnyOrder.{both_none}
+use Rattle.cd_kernel.proofs.ChainsTake.{all_take, chain_of_both}
 use Rattle.cd_kernel.proofs.ItemsByNumber.{ItemsHave, item_has}
 use Rattle.cd_kernel.proofs.KeptCaptures.{kept}
 use Rattle.cd_kernel.proofs.OrElse.{or_else_none}
 use Rattle.cd_kernel.proofs.RunsWhole.{runs_first}
 use Rattle.cd_kernel.proofs.StatesTake.{AreRight, of_copy, of_run, takes_named, TakesKept}
-use Rattle.cd_kernel.proofs.StatesTake.{takes_both, states_take}
+use Rattle.cd_kernel.proofs.StatesTake.{states_take}
 
 module _ {T : Type 0} (test : T → Thing → Bool) (types : Types T) (variables : List Name)
     (nodes : List (KernelNode T)) (right : AreRight test types nodes) where
@@ -82,17 +84,22 @@ module _ {T : Type 0} (test : T → Thing → Bool) (types : Types T) (variables
         CopyTakes copy = taken_named d copy.start
             ≡ of_run copy.group (in_copy copy) runs (items d)
 
-        copies_take : (copies : List Copy) (number : ℕ)
+        starts_take : (copy : Copy) (copies : List Copy) → AllOf CopyTakes (copy ∷ copies)
+            → all_take test types variables nodes right d
+            (map (λ one. one.start) (copy ∷ copies))
+            ≡ all_run (copy ∷ copies) (items d)
+        starts_take copy [] each =
+            both_none (taken_named d copy.start) ∙ each.0 ∙ last_run copy (items d)
+        starts_take copy (next ∷ copies) each =
+            ap₂ both each.0 (starts_take next copies each.1) ∙ joined_run copy (next ∷ copies) (items d)
+
+        copies_take : (copies : List Copy) (number : ℕ) → one_is_plain copies ≡ true
             → AreJoined types variables nodes copies number → AllOf CopyTakes copies
             → taken_named d number ≡ all_run copies (items d)
-        copies_take [] number joined each = absurd joined
-        copies_take (copy ∷ []) number joined each =
-            subst (λ n. taken_named d n ≡ all_run (copy ∷ []) (items d)) joined
-            (each.0 ∙ last_run copy (items d))
-        copies_take (copy ∷ next ∷ copies) number (other, there, joined) each =
-            takes_both test types variables nodes right d number copy.start other there
-            ∙ ap₂ both each.0 (copies_take (next ∷ copies) other joined each.1)
-            ∙ joined_run copy (next ∷ copies) (items d)
+        copies_take [] number plain joined each = absurd (true≢false (sym plain))
+        copies_take (copy ∷ copies) number plain joined each =
+            chain_of_both test types variables nodes right d (map (λ one. one.start) (copy ∷ copies))
+            number joined ∙ starts_take copy copies each
 
       -- what the copies have of one variable
       module _ (way : Way) (name : Name) where
@@ -185,7 +192,7 @@ module _ {T : Type 0} (test : T → Thing → Bool) (types : Types T) (variables
 
         pub sequence_alike : AllOf ItemsAlike copies → IsAlike keeps (pattern.Sequence r) number
         sequence_alike alike d =
-            copies_take d copies number are.joined
+            copies_take d copies number are.plain are.joined
             (in_group copies (λ name h. h) d are.each alike) ∙ by_items (items d)
           where
             by_way : (w : Option Way) → option_map (copies_have copies) w

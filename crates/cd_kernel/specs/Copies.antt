@@ -2,13 +2,14 @@
 -- variable alone, so variables that gather the same item are in several copies. Each relation
 -- speaks of nodes that are there, and so is kept where nodes are put after them.
 use Rattle.std.specs.Prelude.{◌≡◌, ℕ, Bool, true, false, ◌||◌, List, [], ◌∷◌, Option, Some, None}
-use Rattle.std.specs.Prelude.{bytes_eq, if◌then◌else◌}
+use Rattle.std.specs.Prelude.{map, bytes_eq, if◌then◌else◌}
 use Rattle.std.specs.List.{slice_get, list_any}
 use Rattle.std.specs.Option.{unwrap_or}
 use Rattle.cd_syntax.specs.Name.{Name}
 use Rattle.cd_syntax.specs.declared.constant.Constant.TheVariants as constant
 use Rattle.cd_matching.specs.Kernel.{KernelNode, Test, Put, Pair, Both, First, Gather, number_of}
 use Rattle.cd_matching.specs.Pattern.{Regular}
+use Rattle.cd_kernel.specs.Chains.{IsChain}
 use Rattle.cd_moves.specs.Automaton.{Move, End, To, ItemOf, once, first_moves, items_of, rows_of}
 
 -- the types of the empty sequence, of all things and of none
@@ -102,7 +103,4 @@ module _ {T : Type 0} (types : Types T) (variables : List Name) (nodes : List (K
         → is_among of.1 name ≡ true → gatherer copy.group of.1 ≡ Some name
 
   abbrev pub AreJoined : List Copy → ℕ → Type 0
-  AreJoined [] number = ⊥
-  AreJoined (copy ∷ []) number = copy.start ≡ number
-  AreJoined (copy ∷ next ∷ copies) number = (other : ℕ)
-      × IsAt nodes number (Both copy.start other) × AreJoined (next ∷ copies) other
+  AreJoined copies = IsChain nodes Both (map (λ copy. copy.start) copies)

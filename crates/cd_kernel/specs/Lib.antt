@@ -2,6 +2,7 @@ pub mod Labelled
 pub mod Alternatives
 pub mod Inner
 pub mod Examples
+pub mod Chains
 pub mod Copies
 pub mod Making
 pub mod WellMade

@@ -19,6 +19,7 @@ use Rattle.cd_matching.specs.Sequences.{items, is_no_item}
 use Rattle.cd_matching.specs.Take.{take}
 use Rattle.cd_matching.specs.Variables.{is_gathered}
 use Rattle.cd_moves.specs.Automaton.{items_in}
+use Rattle.cd_kernel.specs.Chains.{IsChain}
 use Rattle.cd_kernel.specs.Copies.{Types, IsAt, IsNumber, Copy, in_a_group, one_is_plain}
 use Rattle.cd_kernel.specs.Copies.{AreDisjoint, IsCopy, AreJoined}
 
@@ -38,6 +39,11 @@ module _ {T : Type 0} (types : Types T) (variables : List Name) (nodes : List (K
   IsPut true name node number = (variable : ℕ) × IsNumber variables name variable
       × IsAt nodes number (node variable)
   IsPut false name node number = IsAt nodes number (Test types.any)
+
+  -- a chain, or a test of a type where no node is in it
+  abbrev pub IsChainOr : (joint : ℕ → ℕ → KernelNode T) → (none : T) → List ℕ → ℕ → Type 0
+  IsChainOr joint none [] number = IsAt nodes number (Test none)
+  IsChainOr joint none (first ∷ rest) number = IsChain nodes joint (first ∷ rest) number
 
   -- each variable that the expression gathers and that is kept is in a group
   pub record AreCopies (keeps : Name → Bool) (r : Regular T) (copies : List Copy) (number : ℕ)
@@ -66,25 +72,21 @@ module _ {T : Type 0} (types : Types T) (variables : List Name) (nodes : List (K
         (written rising : List (Name × KernelField T)) × IsAt nodes number (Record rising more)
         × IsReordered written rising × AreRisingLabels None rising × FieldsDisjoint fields
         × AreFieldsOf keeps fields written
-    IsKernelOf keeps (pattern.Both all) number = IsBothOf keeps all number
-    IsKernelOf keeps (pattern.First all) number = IsFirstOf keeps all number
+    IsKernelOf keeps (pattern.Both all) number = (numbers : List ℕ)
+        × AreKernelsOf keeps all numbers × IsChainOr Both types.any numbers number
+    IsKernelOf keeps (pattern.First all) number = (numbers : List ℕ)
+        × AreKernelsOf keeps all numbers × IsChainOr First types.empty numbers number
     IsKernelOf keeps (pattern.Sequence r) number = (copies : List Copy)
         × AreCopies keeps r copies number
         × AllOf (λ copy. AreItemsOf (inner keeps r copy) copy.items r 0) copies
 
-    pub IsBothOf : (keeps : Name → Bool) → Patterns T → ℕ → Type 0
-    IsBothOf keeps NoPattern number = IsAt nodes number (Test types.any)
-    IsBothOf keeps (APattern p NoPattern) number = IsKernelOf keeps p number
-    IsBothOf keeps (APattern p (APattern next rest)) number = (first second : ℕ)
-        × IsAt nodes number (Both first second) × IsKernelOf keeps p first
-        × IsBothOf keeps (APattern next rest) second
-
-    pub IsFirstOf : (keeps : Name → Bool) → Patterns T → ℕ → Type 0
-    IsFirstOf keeps NoPattern number = IsAt nodes number (Test types.empty)
-    IsFirstOf keeps (APattern p NoPattern) number = IsKernelOf keeps p number
-    IsFirstOf keeps (APattern p (APattern next rest)) number = (first second : ℕ)
-        × IsAt nodes number (First first second) × IsKernelOf keeps p first
-        × IsFirstOf keeps (APattern next rest) second
+    -- each pattern with the number of its node
+    pub AreKernelsOf : (keeps : Name → Bool) → Patterns T → List ℕ → Type 0
+    AreKernelsOf keeps NoPattern [] = Unit {0}
+    AreKernelsOf keeps NoPattern (number ∷ numbers) = ⊥
+    AreKernelsOf keeps (APattern p rest) [] = ⊥
+    AreKernelsOf keeps (APattern p rest) (number ∷ numbers) = IsKernelOf keeps p number
+        × AreKernelsOf keeps rest numbers
 
     -- the kernel's fields in the pattern's order
     pub AreFieldsOf : (keeps : Name → Bool) → Fields T → List (Name × KernelField T) → Type 0

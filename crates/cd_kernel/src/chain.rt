@@ -3,7 +3,7 @@ ghost use Rattle.std.specs.Prelude.{◌≡◌, IfOk};
 ghost use Rattle.std.specs.Prelude.{Some};
 ghost use Rattle.cd_matching.specs.Kernel.{Bind, Put};
 ghost use Rattle.cd_matching.specs.PlainKernel.{plain_node, plain_nodes};
-ghost use Rattle.cd_kernel.specs.Inner.Building.{put, put_if, linked, chain_of, chained};
+ghost use Rattle.cd_kernel.specs.Inner.Building.{put, put_if, chained};
 ghost use Rattle.cd_kernel.specs.Inner.PlainJoint.{plain_joint};
 
 use cd_graph::built_in::ANY;
@@ -73,8 +73,9 @@ pub(crate) fn put_default(
     put(KernelNode::Test(ANY), nodes)
 }
 
-/// Puts the chain of some nodes after these, and gives the number of its first node. Of no node it
-/// is a test of `none`.
+/// Puts the chain of some nodes after these, and gives its number. A chain of one node is that
+/// node, a chain of more joins the chains of both halves, and a chain of none is a test of `none`.
+#[cycle(chain)]
 pub(crate) fn chain(
     joint: Joint,
     none: NodeId,
@@ -84,40 +85,14 @@ pub(crate) fn chain(
     ensures { IfOk result (λ number. (number, plain_nodes nodes.new.items)
         ≡ chained (plain_joint joint) none numbers.now (plain_nodes nodes.old.items)) }
 {
-    match chain_of(joint, numbers, nodes)? {
-        Some(number) => Ok(number),
-        None => Ok(put(KernelNode::Test(none), nodes)?),
-    }
-}
-
-fn chain_of(
-    joint: Joint,
-    numbers: &[usize],
-    nodes: &mut Vec<KernelNode>,
-) -> Result<Option<usize>, AllocError>
-    ensures { IfOk result (λ rest. (rest, plain_nodes nodes.new.items)
-        ≡ chain_of (plain_joint joint) numbers.now (plain_nodes nodes.old.items)) }
-{
-    let mut rest = None;
-    let mut index = numbers.len();
-    while index > 0 {
-        index -= 1;
-        rest = Some(link(joint, numbers[index], rest, nodes)?);
-    }
-    Ok(rest)
-}
-
-fn link(
-    joint: Joint,
-    number: usize,
-    rest: Option<usize>,
-    nodes: &mut Vec<KernelNode>,
-) -> Result<usize, AllocError>
-    ensures { IfOk result (λ first. (Some first, plain_nodes nodes.new.items)
-        ≡ linked (plain_joint joint) number (rest, plain_nodes nodes.old.items)) }
-{
-    match rest {
-        None => Ok(number),
-        Some(rest) => Ok(put(joint.node(number, rest), nodes)?),
+    match numbers {
+        [] => put(KernelNode::Test(none), nodes),
+        [number, rest @ ..] if rest.is_empty() => Ok(*number),
+        [_, ..] => {
+            let half = numbers.len() / 2;
+            let first = chain(joint, none, &numbers[..half], nodes)?;
+            let second = chain(joint, none, &numbers[half..], nodes)?;
+            Ok(put(joint.node(first, second), nodes)?)
+        }
     }
 }

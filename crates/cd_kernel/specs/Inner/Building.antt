@@ -1,7 +1,7 @@
 -- What the code makes of patterns. Nodes are put after those that are there, and a node has the
 -- number of its place.
-use Rattle.std.specs.Prelude.{ℕ, suc, ◌+◌, ◌-◌, Bool, true, false, List, [], ◌∷◌, ◌++◌, map, length}
-use Rattle.std.specs.Prelude.{reverse, Option, Some, None}
+use Rattle.std.specs.Prelude.{ℕ, zero, suc, ◌+◌, ◌-◌, ◌/◌, Bool, true, false, List, [], ◌∷◌, ◌++◌}
+use Rattle.std.specs.Prelude.{map, length, take, drop, reverse, Option, Some, None}
 use Rattle.std.specs.List.{slice_get}
 use Rattle.std.specs.Option.{unwrap_or}
 use Rattle.cd_sets.specs.declared.node_id.NodeId.{NodeId}
@@ -45,29 +45,30 @@ abbrev pub put_if : Bool → KernelNode NodeId → Nodes → Built
 put_if true node nodes = put node nodes
 put_if false node nodes = put (Test ANY) nodes
 
--- the last node of a chain, if there is one, and all nodes
+-- the last node of a state's moves, if there is one, and all nodes
 abbrev pub Chain : Type 0
 Chain = Option ℕ × Nodes
 
 abbrev pub begun : Built → Chain
 begun one = (Some one.0, one.1)
 
--- a node before a chain
-abbrev pub linked : (ℕ → ℕ → KernelNode NodeId) → ℕ → Chain → Chain
-linked node number (None, nodes) = (Some number, nodes)
-linked node number (Some rest, nodes) = begun (put (node number rest) nodes)
+-- The chain of some nodes, in at most so many steps down: a chain of one node is that node, a chain
+-- of more joins the chains of both halves, and a chain of none is a test of `none`
+abbrev pub chain_within : (steps : ℕ) → (ℕ → ℕ → KernelNode NodeId) → (none : NodeId) → List ℕ
+    → Nodes → Built
+chain_within steps node none [] nodes = put (Test none) nodes
+chain_within steps node none (number ∷ []) nodes = (number, nodes)
+chain_within zero node none (number ∷ next ∷ numbers) nodes = (number, nodes)
+chain_within (suc steps) node none (number ∷ next ∷ numbers) nodes =
+    two_of node
+    (chain_within steps node none
+    (take (length (number ∷ next ∷ numbers) / 2) (number ∷ next ∷ numbers)) nodes)
+    (chain_within steps node none
+    (drop (length (number ∷ next ∷ numbers) / 2) (number ∷ next ∷ numbers)))
 
-abbrev pub chain_of : (ℕ → ℕ → KernelNode NodeId) → List ℕ → Nodes → Chain
-chain_of node [] nodes = (None, nodes)
-chain_of node (number ∷ numbers) nodes = linked node number (chain_of node numbers nodes)
-
--- a node for what no node is in
-abbrev pub or_put : KernelNode NodeId → Chain → Built
-or_put node (None, nodes) = put node nodes
-or_put node (Some number, nodes) = (number, nodes)
-
+-- each half has fewer nodes, so as many steps as nodes are enough
 abbrev pub chained : (ℕ → ℕ → KernelNode NodeId) → (none : NodeId) → List ℕ → Nodes → Built
-chained node none numbers nodes = or_put (Test none) (chain_of node numbers nodes)
+chained node none numbers nodes = chain_within (length numbers) node none numbers nodes
 
 -- several parts in turn, after those that were made
 abbrev pub Several : Type 0
