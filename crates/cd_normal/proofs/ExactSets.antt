@@ -1,17 +1,12 @@
--- Sets that hold exactly what passes, where nodes are taken one by one and formulas by halves.
+-- Sets that hold exactly what passes, where nodes are taken one by one and sets by halves.
 use Rattle.std.proofs.Common.{◌≡◌, ℕ, zero, suc, ◌-◌, ◌<◌, ◌≤◌, Bool, true, false, not, ◌&&◌, ◌||◌, List, [], ◌∷◌}
-use Rattle.std.proofs.Common.{map, take, drop, length, get_or, refl, sym, ap, ◌∙◌, true≢false, arith, ℤ}
-use Rattle.std.specs.List.{list_all}
+use Rattle.std.proofs.Common.{take, drop, length, get_or, refl, sym, ap, ◌∙◌, arith}
 use Rattle.std.proofs.Math.Seq.{drop-length}
 use Rattle.cd_sets.specs.declared.node_id.NodeId.{NodeId}
-use Rattle.cd_syntax.specs.Name.{Name}
-use Rattle.cd_model.specs.Formula as formula
 use Rattle.cd_model.specs.Formula.{Formula, Graph, formula_at, formulas_of}
-use Rattle.cd_graph.specs.PlainFormula.{plain}
-use Rattle.cd_graph.specs.declared.formula.Formula.{Formula as CodeFormula}
 use Rattle.cd_rules.specs.BasicSets.{passes, all_pass, one_passes, in_all, in_none, integer_test, character_test, atom_test}
 use Rattle.cd_normal.specs.declared.basic_sets.Basics.{Basics}
-use Rattle.cd_normal.specs.Inner.ExactSets.{Passing, AreExact, has_parts}
+use Rattle.cd_normal.specs.Inner.ExactSets.{Passing, AreExact}
 use Rattle.cd_normal.proofs.Lists.{from_item_or}
 
 -- sets that hold what passes hold what passes in other words
@@ -32,25 +27,23 @@ or_assoc : (one two rest : Bool) → ((one || two) || rest) ≡ (one || (two || 
 or_assoc true two rest = refl
 or_assoc false two rest = refl
 
-pub all_of_halves : (test : Formula → Bool) (half : ℕ) (formulas : List CodeFormula)
-    → (all_pass test (formulas_of (map plain (take half formulas))) && all_pass test (formulas_of (map plain (drop half formulas))))
-    ≡ all_pass test (formulas_of (map plain formulas))
+pub all_of_halves : (test : Formula → Bool) (half : ℕ) (formulas : List Formula)
+    → (all_pass test (formulas_of (take half formulas)) && all_pass test (formulas_of (drop half formulas)))
+    ≡ all_pass test (formulas_of formulas)
 all_of_halves test zero formulas = refl
 all_of_halves test (suc half) [] = refl
-all_of_halves test (suc half) (formula ∷ formulas) =
-    and_assoc (passes test (plain formula)) (all_pass test (formulas_of (map plain (take half formulas))))
-    (all_pass test (formulas_of (map plain (drop half formulas))))
-    ∙ ap (λ rest. passes test (plain formula) && rest) (all_of_halves test half formulas)
+all_of_halves test (suc half) (one ∷ rest) =
+    and_assoc (passes test one) (all_pass test (formulas_of (take half rest))) (all_pass test (formulas_of (drop half rest)))
+    ∙ ap (λ passed. passes test one && passed) (all_of_halves test half rest)
 
-pub one_of_halves : (test : Formula → Bool) (half : ℕ) (formulas : List CodeFormula)
-    → (one_passes test (formulas_of (map plain (take half formulas))) || one_passes test (formulas_of (map plain (drop half formulas))))
-    ≡ one_passes test (formulas_of (map plain formulas))
+pub one_of_halves : (test : Formula → Bool) (half : ℕ) (formulas : List Formula)
+    → (one_passes test (formulas_of (take half formulas)) || one_passes test (formulas_of (drop half formulas)))
+    ≡ one_passes test (formulas_of formulas)
 one_of_halves test zero formulas = refl
 one_of_halves test (suc half) [] = refl
-one_of_halves test (suc half) (formula ∷ formulas) =
-    or_assoc (passes test (plain formula)) (one_passes test (formulas_of (map plain (take half formulas))))
-    (one_passes test (formulas_of (map plain (drop half formulas))))
-    ∙ ap (λ rest. passes test (plain formula) || rest) (one_of_halves test half formulas)
+one_of_halves test (suc half) (one ∷ rest) =
+    or_assoc (passes test one) (one_passes test (formulas_of (take half rest))) (one_passes test (formulas_of (drop half rest)))
+    ∙ ap (λ passed. passes test one || passed) (one_of_halves test half rest)
 
 -- one more node, which is wanted or refused
 module _ (graph : Graph) (ids : List NodeId) (index : ℕ) (other : NodeId) (some : 0 < index) (most : index ≤ length ids)
@@ -83,7 +76,7 @@ pub no_nodes : (graph : Graph) (ids : List NodeId) → length ids ≡ 0 → (tes
 no_nodes graph [] none test = refl
 no_nodes graph (id ∷ ids) none test = absurd (omega arith)
 
-and_true : (one : Bool) → one ≡ (one && true)
+pub and_true : (one : Bool) → one ≡ (one && true)
 and_true true = refl
 and_true false = refl
 
@@ -107,45 +100,3 @@ all_of_parts test graph (suc index) (id ∷ ids) =
     turned true two three = refl
     turned false true three = refl
     turned false false three = refl
-
--- no integer, character or atom is of things that have parts
-both : (one two : Bool) → (one && two) ≡ true → (one ≡ true) × (two ≡ true)
-both true two are = (refl, are)
-both false two are = absurd (true≢false (sym are))
-
-none_passes : (test : Formula → Bool) → ((one : Formula) → has_parts one ≡ true → false ≡ passes test one) → (formulas : List CodeFormula)
-    → list_all (λ formula. has_parts (plain formula)) formulas ≡ true → false ≡ one_passes test (formulas_of (map plain formulas))
-none_passes test fails [] all = refl
-none_passes test fails (formula ∷ rest) all =
-    let parts = both (has_parts (plain formula)) (list_all (λ formula. has_parts (plain formula)) rest) all in
-    none_passes test fails rest parts.1
-    ∙ ap (λ passed. passed || one_passes test (formulas_of (map plain rest))) (fails (plain formula) parts.0)
-
-no_integer : (z : ℤ) (one : Formula) → has_parts one ≡ true → false ≡ passes (integer_test z) one
-no_integer z (formula.Pair first second) is = refl
-no_integer z (formula.Xml tag attributes content) is = refl
-no_integer z (formula.Record named rest) is = refl
-no_integer z (formula.Arrow argument mapped) is = refl
-no_integer z _ is = absurd (true≢false (sym is))
-
-no_character : (c : ℕ) (one : Formula) → has_parts one ≡ true → false ≡ passes (character_test c) one
-no_character c (formula.Pair first second) is = refl
-no_character c (formula.Xml tag attributes content) is = refl
-no_character c (formula.Record named rest) is = refl
-no_character c (formula.Arrow argument mapped) is = refl
-no_character c _ is = absurd (true≢false (sym is))
-
-no_atom : (name : Name) (one : Formula) → has_parts one ≡ true → false ≡ passes (atom_test name) one
-no_atom name (formula.Pair first second) is = refl
-no_atom name (formula.Xml tag attributes content) is = refl
-no_atom name (formula.Record named rest) is = refl
-no_atom name (formula.Arrow argument mapped) is = refl
-no_atom name _ is = absurd (true≢false (sym is))
-
-pub none_in_parts : (formulas : List CodeFormula) → list_all (λ formula. has_parts (plain formula)) formulas ≡ true → (sets : Basics)
-    → AreExact (λ test. false) sets → AreExact (λ test. one_passes test (formulas_of (map plain formulas))) sets
-none_in_parts formulas all sets exact = (
-  λ z is. exact.0 z is ∙ none_passes (integer_test z) (no_integer z) formulas all,
-  λ c is. exact.1 c is ∙ none_passes (character_test c) (no_character c) formulas all,
-  λ name is. exact.2 name is ∙ none_passes (atom_test name) (no_atom name) formulas all,
-)

@@ -1,8 +1,9 @@
-mod Halves
 mod Lists
 mod Stacks
 mod ExactSets
 mod Nothing
+mod ExactHalves
+mod Collected
 mod ConjunctsJoined
 pub mod BasicsOfQuestions
 mod ClausesOfKinds

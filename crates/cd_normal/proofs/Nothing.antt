@@ -13,7 +13,7 @@ nothing_left sets nothing passing other exact = (
   λ name is. nothing.2 name is ∙ sym (ap (λ one. one && other (atom_test name)) (sym (exact.2 name is) ∙ nothing.2 name is)),
 )
 
-or_false : (one : Bool) → one ≡ (one || false)
+pub or_false : (one : Bool) → one ≡ (one || false)
 or_false true = refl
 or_false false = refl
 

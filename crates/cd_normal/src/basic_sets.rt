@@ -30,6 +30,17 @@ impl Basics {
         self.integers.is_empty() && self.characters.is_empty() && self.atoms.is_empty()
     }
 
+    // The same ones.
+    pub(crate) fn copy(&self) -> Result<Basics, AllocError>
+        ensures { IfOk result (λ copy. copy ≡ self.now) }
+    {
+        Ok(Basics {
+            integers: self.integers.copy()?,
+            characters: self.characters.copy()?,
+            atoms: self.atoms.copy()?,
+        })
+    }
+
     // None.
     pub(crate) fn none(alloc: Global) -> Basics
         ensures { AreExact (λ test. false) result }

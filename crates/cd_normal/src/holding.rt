@@ -1,20 +1,20 @@
 //! The integers, characters and atoms that are in formulas and in questions.
-ghost use Rattle.std.specs.Prelude.{◌≡◌, ◌<◌, ◌&&◌, not, ℤ, ℕ, map, length, IfOk};
+ghost use Rattle.std.specs.Prelude.{◌≡◌, ◌<◌, ◌&&◌, not, ℤ, ℕ, List, map, length, IfOk};
 ghost use Rattle.std.specs.Char.{IsScalar};
-ghost use Rattle.std.specs.List.{list_all};
 ghost use Rattle.cd_sets.specs.Interval.{holds};
 ghost use Rattle.cd_sets.specs.Characters.{holds_character};
 ghost use Rattle.cd_sets.specs.Atoms.{IsAtom, holds as holds_atom};
 ghost use Rattle.cd_syntax.specs.Integer.{IsInteger};
 ghost use Rattle.cd_syntax.specs.Name.{Name};
 ghost use Rattle.cd_model.specs.AllOf.{AllOf};
+ghost use Rattle.cd_model.specs.Formula as formula;
 ghost use Rattle.cd_model.specs.Formula.{formulas_of};
 ghost use Rattle.cd_graph.specs.Nodes.{nodes};
 ghost use Rattle.cd_graph.specs.PlainFormula.{plain};
 ghost use Rattle.cd_rules.specs.BasicSets.{passes, all_pass, one_passes, in_all, in_none};
 ghost use Rattle.cd_rules.specs.BasicSets.{question_passes, integer_test, character_test};
 ghost use Rattle.cd_rules.specs.BasicSets.{atom_test};
-ghost use Rattle.cd_normal.specs.Inner.ExactSets.{AreExact, Passing, has_parts};
+ghost use Rattle.cd_normal.specs.Inner.ExactSets.{AreExact, AreExactEach, Passing, has_parts};
 
 use crate::basic_sets::Basics;
 use cd_graph::{Formula, Graph};
@@ -101,51 +101,72 @@ fn of_formula(alloc: Global, formula: &Formula) -> Result<Basics, AllocError>
     }
 }
 
-// Those that are in each of the formulas, by halves.
+// Those that are in each of the formulas.
 #[cycle(basics)]
 fn of_each(alloc: Global, formulas: &[Formula]) -> Result<Basics, AllocError>
     ensures { IfOk result
         (AreExact (λ test. all_pass test (formulas_of (map plain formulas.now)))) }
 {
-    match formulas {
-        [] => Basics::all(alloc),
-        [formula, rest @ ..] if rest.is_empty() => of_formula(alloc, formula),
-        [_, ..] => {
-            let half = formulas.len() / 2;
-            let first = of_each(alloc, &formulas[..half])?;
-            if first.is_empty() {
-                return Ok(first);
-            }
-            first.intersect(alloc, &of_each(alloc, &formulas[half..])?)
+    let mut sets = Vec::new(alloc);
+    for formula in formulas {
+        let set = of_formula(alloc, formula)?;
+        if set.is_empty() {
+            return Ok(set);
         }
+        sets.push(set)?;
     }
+    in_each(alloc, sets.as_slice())
 }
 
-// Those that are in one of the formulas, by halves, until things with parts alone are left.
+// Those that are in one of the formulas. There are none in those of things that have parts, of which
+// a union may have many thousand.
 #[cycle(basics)]
 fn of_one(alloc: Global, formulas: &[Formula]) -> Result<Basics, AllocError>
     ensures { IfOk result
         (AreExact (λ test. one_passes test (formulas_of (map plain formulas.now)))) }
 {
-    if have_parts(formulas) {
-        return Ok(Basics::none(alloc));
+    let mut sets = Vec::new(alloc);
+    for formula in formulas {
+        if !has_parts(formula) {
+            sets.push(of_formula(alloc, formula)?)?;
+        }
     }
-    match formulas {
-        [] => Ok(Basics::none(alloc)),
-        [formula, rest @ ..] if rest.is_empty() => of_formula(alloc, formula),
+    in_one(alloc, sets.as_slice())
+}
+
+// Those that are of each of these, by halves.
+fn in_each(alloc: Global, sets: &[Basics]) -> Result<Basics, AllocError>
+    ensures { IfOk result (λ all. (formulas : List formula.Formula) → AreExactEach formulas sets.now
+        → AreExact (λ test. all_pass test (formulas_of formulas)) all) }
+{
+    match sets {
+        [] => Basics::all(alloc),
+        [set, rest @ ..] if rest.is_empty() => set.copy(),
         [_, ..] => {
-            let half = formulas.len() / 2;
-            let first = of_one(alloc, &formulas[..half])?;
-            first.union(of_one(alloc, &formulas[half..])?)
+            let half = sets.len() / 2;
+            let first = in_each(alloc, &sets[..half])?;
+            if first.is_empty() {
+                return Ok(first);
+            }
+            first.intersect(alloc, &in_each(alloc, &sets[half..])?)
         }
     }
 }
 
-// Whether each of the formulas is of things that have parts.
-fn have_parts(formulas: &[Formula]) -> bool
-    ensures { result ≡ list_all (λ formula. has_parts (plain formula)) formulas.now }
+// Those that are of one of these, by halves.
+fn in_one(alloc: Global, sets: &[Basics]) -> Result<Basics, AllocError>
+    ensures { IfOk result (λ all. (formulas : List formula.Formula) → AreExactEach formulas sets.now
+        → AreExact (λ test. one_passes test (formulas_of formulas)) all) }
 {
-    formulas.iter().all(has_parts)
+    match sets {
+        [] => Ok(Basics::none(alloc)),
+        [set, rest @ ..] if rest.is_empty() => set.copy(),
+        [_, ..] => {
+            let half = sets.len() / 2;
+            let first = in_one(alloc, &sets[..half])?;
+            first.union(in_one(alloc, &sets[half..])?)
+        }
+    }
 }
 
 // Whether a formula is of things that have parts.

@@ -1,15 +1,13 @@
-use Rattle.std.proofs.Common.{rules, ◌/◌, ◌&&◌, ◌||◌, not, take, drop, length, map, ap, sym, refl, ◌∙◌, subst, arith}
+use Rattle.std.proofs.Common.{rules, not, map, drop, refl, ap, sym, ◌∙◌}
 use Rattle.std.proofs.lemmas.Result.{IfOk-weaker}
-use Rattle.cd_model.specs.Formula.{formulas_of}
 use Rattle.cd_graph.specs.PlainFormula.{plain}
-use Rattle.cd_rules.specs.BasicSets.{passes, all_pass, one_passes}
+use Rattle.cd_rules.specs.BasicSets.{passes}
 use Rattle.cd_graph.proofs.Reading.{plain_not}
-use Rattle.cd_normal.specs.Inner.ExactSets.{AreExact}
-use Rattle.cd_normal.proofs.Lists.{from_place, two_or_more}
-use Rattle.cd_normal.proofs.ExactSets.{exact_so, all_of_halves, one_of_halves, none_in_parts}
-use Rattle.cd_normal.proofs.Halves.{first_falls, second_falls}
-use Rattle.cd_normal.proofs.Nothing.{nothing_left}
+use Rattle.cd_graph.proofs.Sizes.{items_fall}
+use Rattle.cd_normal.proofs.ExactSets.{exact_so}
+use Rattle.cd_normal.proofs.Collected.{passes_each, passes_one, next_formula, none_left, one_put, all_put, left_out, nothing_more}
 use Rattle.cd_normal.proofs.holding.+basics.Goals as goal
+use Rattle.cd_normal.proofs.holding.+basics.Goals.{of_one-then-not-has_parts+in_ok-of_formula+in_ok-push, of_one-else-not-has_parts}
 
 pub of_formula-returns-in_ok-of_formula-in-Not : goal.of_formula-returns-in_ok-of_formula-in-Not
 of_formula-returns-in_ok-of_formula-in-Not t c =
@@ -20,80 +18,66 @@ of_formula-returns-in_ok-of_formula-in-Not t c =
     ∙ sym (ap (passes test) (ap plain c.in-Not.is ∙ plain_not c.in-Not.inner))) sets
     (of (λ test. passes test inner) c.in_ok-of_formula-in-Not.ensures)) c.others.ensures
 
--- each half is smaller than the list
-pub of_each-of_each-requires : goal.of_each-of_each-requires
-of_each-of_each-requires t c =
-    let formulas = c.args.formulas.now in
-    let least = c.in-len1-up.len_at_least in
-    let fall = first_falls (length formulas / 2) formulas (omega arith) in
+-- each formula is smaller than the list
+pub of_each-of_formula-requires : goal.of_each-of_formula-requires
+of_each-of_formula-requires t c =
+    let fall = items_fall c.args.formulas.now c.loop-formula.formula-index c.formula-item.result c.formula-item.is c.loop-formula-test.true in
     search (rules, fall, c.decreases)
 
-pub of_each-of_each-requires-in-len1-up-2 : goal.of_each-of_each-requires-in-len1-up-2
-of_each-of_each-requires-in-len1-up-2 t c =
-    let formulas = c.args.formulas.now in
-    let half = length formulas / 2 in
-    let least = two_or_more formulas c.if-is_empty.ensures in
-    let fall = rw (sym (from_place formulas half)) at (second_falls half formulas (omega arith) (omega arith)) in
+pub of_one-of_formula-requires : goal.of_one-of_formula-requires
+of_one-of_formula-requires t c =
+    let fall = items_fall c.args.formulas.now c.loop-formula.formula-index c.formula-item.result c.formula-item.is c.loop-formula-test.true in
     search (rules, fall, c.decreases)
 
--- what is in both halves is in all
-pub of_each-returns-in_ok-of_each-in-len1-up-2 : goal.of_each-returns-in_ok-of_each-in-len1-up-2
-of_each-returns-in_ok-of_each-in-len1-up-2 t c =
+-- where nothing is in one of the formulas, nothing is in each of all
+pub of_each-returns-then-is_empty : goal.of_each-returns-then-is_empty
+of_each-returns-then-is_empty t c =
     let formulas = c.args.formulas.now in
-    let half = length formulas / 2 in
-    IfOk-weaker c.intersect.result _ _
-    (λ sets of. exact_so
-    (λ test. all_pass test (formulas_of (map plain (take half formulas))) && all_pass test (formulas_of (map plain (drop half formulas))))
-    (λ test. all_pass test (formulas_of (map plain formulas))) (λ test. all_of_halves test half formulas) sets
-    (of (λ test. all_pass test (formulas_of (map plain (take half formulas))))
-    (λ test. all_pass test (formulas_of (map plain (drop half formulas))))
-    c.in_ok-first-in-len1-up-2.ensures
-    (subst (λ rest. AreExact (λ test. all_pass test (formulas_of (map plain rest))) c.in_ok-of_each-in-len1-up-2.field-0)
-    (from_place formulas half) c.in_ok-of_each-in-len1-up-2.ensures))) c.intersect.ensures
+    let index = c.loop-formula.formula-index in
+    let formula = c.formula-item.result in
+    nothing_more (map plain formulas) _ _ c.loop-formula.sets.items (plain formula) c.in_ok-set.set c.loop-formula.invariant
+    (next_formula formulas index formula c.formula-item.is c.loop-formula-test.true) c.in_ok-set.ensures (c.if-is_empty.ensures.0 refl)
 
--- where the first half leaves nothing, all of them leave nothing
-pub of_each-returns-then-is_empty-2 : goal.of_each-returns-then-is_empty-2
-of_each-returns-then-is_empty-2 t c =
+-- the set of one formula more
+pub of_each-loop-formula-preserved : goal.of_each-loop-formula-preserved
+of_each-loop-formula-preserved t c =
     let formulas = c.args.formulas.now in
-    let half = length formulas / 2 in
-    let first = c.in_ok-first-in-len1-up-2.first in
-    exact_so
-    (λ test. all_pass test (formulas_of (map plain (take half formulas))) && all_pass test (formulas_of (map plain (drop half formulas))))
-    (λ test. all_pass test (formulas_of (map plain formulas))) (λ test. all_of_halves test half formulas) first
-    (nothing_left first (c.if-is_empty-2.ensures.0 refl) (λ test. all_pass test (formulas_of (map plain (take half formulas))))
-    (λ test. all_pass test (formulas_of (map plain (drop half formulas)))) c.in_ok-first-in-len1-up-2.ensures)
+    let index = c.loop-formula.formula-index in
+    let formula = c.formula-item.result in
+    one_put passes_each (map plain formulas) _ _ c.loop-formula.sets.items c.push.new.self.items (plain formula) c.in_ok-set.set
+    c.loop-formula.invariant (next_formula formulas index formula c.formula-item.is c.loop-formula-test.true) c.in_ok-set.ensures
+    c.in_ok-push.ensures.items
 
--- things with parts are no integers, characters and atoms
-pub of_one-returns-then-have_parts : goal.of_one-returns-then-have_parts
-of_one-returns-then-have_parts t c =
-    none_in_parts c.args.formulas.now (sym c.have_parts.ensures ∙ c.if-have_parts.true) c.none.result c.none.ensures
-
-pub of_one-of_one-requires : goal.of_one-of_one-requires
-of_one-of_one-requires t c =
+-- which is left out where the formula is of things that have parts
+pub of_one-loop-formula-preserved : goal.of_one-loop-formula-preserved
+of_one-loop-formula-preserved t c =
     let formulas = c.args.formulas.now in
-    let least = c.in-len1-up.len_at_least in
-    let fall = first_falls (length formulas / 2) formulas (omega arith) in
-    search (rules, fall, c.decreases)
+    let index = c.loop-formula.formula-index in
+    let formula = c.formula-item.result in
+    let next = next_formula formulas index formula c.formula-item.is c.loop-formula-test.true in
+    elim c.if-not-has_parts.branch [
+      | of_one-then-not-has_parts+in_ok-of_formula+in_ok-push w ↦
+          one_put passes_one (map plain formulas) _ _ c.loop-formula.sets.items c.if-not-has_parts.sets.items (plain formula)
+          w.in_ok-of_formula.field-0 c.loop-formula.invariant next w.in_ok-of_formula.ensures
+          (ap (λ sets. sets.items) w.sets-is ∙ w.in_ok-push.ensures.items)
+      | of_one-else-not-has_parts w ↦
+          left_out (map plain formulas) _ _ c.loop-formula.sets.items c.if-not-has_parts.sets.items (plain formula)
+          c.loop-formula.invariant next (sym w.if-not-has_parts.ensures) (ap (λ sets. sets.items) w.sets-is)
+    ]
 
-pub of_one-of_one-requires-in-len1-up-2 : goal.of_one-of_one-requires-in-len1-up-2
-of_one-of_one-requires-in-len1-up-2 t c =
+-- in the end those of all
+pub of_each-returns : goal.of_each-returns
+of_each-returns t c =
     let formulas = c.args.formulas.now in
-    let half = length formulas / 2 in
-    let least = two_or_more formulas c.if-is_empty.ensures in
-    let fall = rw (sym (from_place formulas half)) at (second_falls half formulas (omega arith) (omega arith)) in
-    search (rules, fall, c.decreases)
+    let index = c.loop-formula.formula-index in
+    IfOk-weaker c.in_each.result _ _ (λ joined exact. all_put passes_each (map plain formulas) (map plain (drop index formulas))
+    c.loop-formula.sets.items c.as_slice.result.now c.loop-formula.invariant (none_left formulas index c.loop-formula-test.false)
+    c.as_slice.ensures.value joined exact) c.in_each.ensures
 
--- what is in one of the halves is in one of all
-pub of_one-returns-in_ok-of_one-in-len1-up-2 : goal.of_one-returns-in_ok-of_one-in-len1-up-2
-of_one-returns-in_ok-of_one-in-len1-up-2 t c =
+pub of_one-returns : goal.of_one-returns
+of_one-returns t c =
     let formulas = c.args.formulas.now in
-    let half = length formulas / 2 in
-    IfOk-weaker c.union.result _ _
-    (λ sets of. exact_so
-    (λ test. one_passes test (formulas_of (map plain (take half formulas))) || one_passes test (formulas_of (map plain (drop half formulas))))
-    (λ test. one_passes test (formulas_of (map plain formulas))) (λ test. one_of_halves test half formulas) sets
-    (of (λ test. one_passes test (formulas_of (map plain (take half formulas))))
-    (λ test. one_passes test (formulas_of (map plain (drop half formulas))))
-    c.in_ok-first-in-len1-up-2.ensures
-    (subst (λ rest. AreExact (λ test. one_passes test (formulas_of (map plain rest))) c.in_ok-of_one-in-len1-up-2.field-0)
-    (from_place formulas half) c.in_ok-of_one-in-len1-up-2.ensures))) c.union.ensures
+    let index = c.loop-formula.formula-index in
+    IfOk-weaker c.in_one.result _ _ (λ joined exact. all_put passes_one (map plain formulas) (map plain (drop index formulas))
+    c.loop-formula.sets.items c.as_slice.result.now c.loop-formula.invariant (none_left formulas index c.loop-formula-test.false)
+    c.as_slice.ensures.value joined exact) c.in_one.ensures
