@@ -1,6 +1,7 @@
 pub mod Combined
 pub mod NamedFields
 pub mod Simpler
+pub mod Conjuncts
 pub mod AcceptsNodes
 pub mod AcceptsRecords
 pub mod Accepts

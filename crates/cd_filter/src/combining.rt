@@ -1,13 +1,14 @@
-//! Rows that are formed of others. A meet with All is the other formula, a union with All is All,
-//! and a union of one formula is that one.
-ghost use Rattle.std.specs.Prelude.{◌≡◌, IfOk, map, [], ◌∷◌};
+//! Rows that are formed of others. A meet with All is the other formula, and a meet of meets is one
+//! of all their formulas, so that a long chain of Both nests no deeper than a short one. A union
+//! with All is All, and a union of one formula is that one.
+ghost use Rattle.std.specs.Prelude.{◌≡◌, IfOk, OnOk, map, [], ◌∷◌, ◌++◌};
 ghost use Rattle.std.specs.List.{list_any};
 ghost use Rattle.std.specs.Option.{IfSome};
 ghost use Rattle.cd_model.specs.Formula as formula;
 ghost use Rattle.cd_model.specs.Formula.{formulas_of};
 ghost use Rattle.cd_graph.specs.PlainFormula.{plain};
 ghost use Rattle.cd_filter.specs.Inner.Forming.{row_formula, formula_in, IsUnion, IsMeet};
-ghost use Rattle.cd_filter.specs.Simpler.{is_everything, IsSimpler};
+ghost use Rattle.cd_filter.specs.Simpler.{is_everything, conjuncts, IsSimpler};
 
 use crate::formed::Formed;
 use crate::members::joined;
@@ -51,7 +52,8 @@ pub(crate) fn union(
     Ok(Some(Formed { members, formula }))
 }
 
-// What both of the formulas for two hold: where one is All, the other one.
+// What both of the formulas for two hold: where one is All, the other one, and else the meet of the
+// conjuncts of both.
 fn meet_of(
     alloc: Global,
     rows: &[Option<Formed>],
@@ -67,7 +69,32 @@ fn meet_of(
     if is_all_at(rows, q) {
         return formula_in(rows, p);
     }
-    Ok(Formula::and(Formulas::of(formulas_in(alloc, rows, &[p, q])?)?))
+    let mut formulas = Vec::new(alloc);
+    add_conjuncts(&mut formulas, formula_in(rows, p)?)?;
+    add_conjuncts(&mut formulas, formula_in(rows, q)?)?;
+    Ok(Formula::and(Formulas::of(formulas)?))
+}
+
+// Puts the formulas of a meet after others, or any other formula alone.
+fn add_conjuncts(formulas: &mut Vec<Formula>, formula: Formula) -> Result<(), AllocError>
+    ensures { OnOk result (map plain formulas.new.items
+        ≡ map plain formulas.old.items ++ conjuncts (plain formula)) }
+{
+    match formula {
+        Formula::And(members) => add_copies(formulas, members.items()),
+        other => Ok(formulas.push(other)?),
+    }
+}
+
+// Puts copies of these formulas after others.
+fn add_copies(formulas: &mut Vec<Formula>, others: &[Formula]) -> Result<(), AllocError>
+    ensures { OnOk result (map plain formulas.new.items
+        ≡ map plain formulas.old.items ++ map plain others.now) }
+{
+    for other in others {
+        formulas.push(other.copy()?)?;
+    }
+    Ok(())
 }
 
 // What one of the formulas for these holds: where one is All, that one.
