@@ -51,7 +51,7 @@ pub struct Formulas {
 
 // So deep may connectives nest, since formulas are gone over by recursion. What is written nests
 // less, but names that are each a connective over the next one nest as deep as they are many.
-const MOST_DEPTH: usize = 2_000;
+const MOST_DEPTH: usize = 4_000;
 
 impl Formula {
     /// An equal formula.
@@ -90,7 +90,7 @@ impl Formulas {
     ///
     /// # Errors
     ///
-    /// Want of memory, also where connectives nest more than 2,000 deep.
+    /// Want of memory, also where connectives nest more than 4,000 deep.
     pub fn of(items: Vec<Formula>) -> Result<Formulas, AllocError>
         ensures { IfOk result (λ formulas. plain_list formulas ≡ map plain items.items) }
     {
