@@ -1,7 +1,7 @@
 //! Calls of the program, over files and streams in memory.
+use crate::top_call::TopCall;
 use cd_base::memory_files::MemoryFiles;
 use cd_base::memory_sink::MemorySink;
-use cd_driver::cduce;
 use std::alloc::{AllocError, Global};
 
 /// A status, and the texts on output and on errors.
@@ -13,6 +13,24 @@ pub(crate) struct Answer {
 }
 
 impl Answer {
+    /// A text on output, with status 0.
+    pub(crate) fn output(alloc: Global, out: String) -> Answer {
+        Answer {
+            status: 0,
+            out,
+            err: String::new(alloc),
+        }
+    }
+
+    /// A text on errors, with this status.
+    pub(crate) fn complaint(alloc: Global, status: u64, err: String) -> Answer {
+        Answer {
+            status,
+            out: String::new(alloc),
+            err,
+        }
+    }
+
     /// The element that is printed with a no.
     pub(crate) fn element(&self) -> Option<&str> {
         if self.status == 1 && self.err.is_empty() {
@@ -26,13 +44,14 @@ impl Answer {
 /// What the program answers, if these puts fail, on output and on errors.
 pub(crate) fn answer_to(
     alloc: Global,
+    top: &impl TopCall,
     words: &[String],
     mut files: MemoryFiles,
     failing_puts: &[(u64, usize)],
 ) -> Result<Answer, AllocError> {
     let mut out = MemorySink::new(alloc, Vec::from_slice(alloc, failing_puts)?);
     let mut err = MemorySink::new(alloc, Vec::from_slice(alloc, failing_puts)?);
-    let status = cduce(alloc, words, &mut files, &mut out, &mut err);
+    let status = top.call(alloc, words, &mut files, &mut out, &mut err);
     Ok(Answer {
         status: u64::from(status.number()),
         out: String::from_utf8_lossy(alloc, out.bytes())?,
@@ -63,25 +82,4 @@ pub(crate) fn difference(
         )?;
     }
     Ok(Some(text))
-}
-
-/// Words, as the program takes them.
-pub(crate) fn owned(alloc: Global, words: &[&str]) -> Result<Vec<String>, AllocError> {
-    let mut made = Vec::new(alloc);
-    for word in words {
-        made.push(String::from_str(alloc, word)?)?;
-    }
-    Ok(made)
-}
-
-/// One file, of this name and with this text.
-pub(crate) fn one_file(
-    alloc: Global,
-    name: &str,
-    text: &str,
-) -> Result<Vec<(String, Vec<u8>)>, AllocError> {
-    let mut files = Vec::new(alloc);
-    let bytes = Vec::from_slice(alloc, text.as_bytes())?;
-    files.push((String::from_str(alloc, name)?, bytes))?;
-    Ok(files)
 }

@@ -1,6 +1,7 @@
 //! Whether a row is answered as it should be where a put of it fails, or a read.
 use crate::answer::{Answer, answer_to, difference};
 use crate::row::{files_of, words_of};
+use crate::top_call::TopCall;
 use crate::values::text;
 use cd_base::memory_files::MemoryFiles;
 use std::alloc::{AllocError, Global};
@@ -16,12 +17,13 @@ pub(crate) fn answer_len(row: &Table) -> usize {
 /// these first bytes of its text, if it does.
 pub(crate) fn put_differs(
     alloc: Global,
+    top: &impl TopCall,
     row: &Table,
     kept: usize,
 ) -> Result<Option<String>, AllocError> {
     let words = words_of(alloc, row)?;
     let files = MemoryFiles::new(alloc, files_of(alloc, row)?, Vec::new(alloc));
-    let came = answer_to(alloc, words.as_slice(), files, &[(1, kept)])?;
+    let came = answer_to(alloc, top, words.as_slice(), files, &[(1, kept)])?;
     let wanted = Answer {
         status: 4,
         out: first_bytes(alloc, text(row.get("out")), kept)?,
@@ -40,6 +42,7 @@ fn first_bytes(alloc: Global, text: &str, count: usize) -> Result<String, AllocE
 /// which is of the file with this name, if it does.
 pub(crate) fn read_differs(
     alloc: Global,
+    top: &impl TopCall,
     row: &Table,
     read: u64,
     name: &str,
@@ -47,11 +50,7 @@ pub(crate) fn read_differs(
     let words = words_of(alloc, row)?;
     let failing = vec![in alloc; read]?;
     let files = MemoryFiles::new(alloc, files_of(alloc, row)?, failing);
-    let came = answer_to(alloc, words.as_slice(), files, &[])?;
-    let wanted = Answer {
-        status: 3,
-        out: String::new(alloc),
-        err: format!(in alloc; "cannot read {name}\n")?,
-    };
+    let came = answer_to(alloc, top, words.as_slice(), files, &[])?;
+    let wanted = Answer::complaint(alloc, 3, format!(in alloc; "cannot read {name}\n")?);
     difference(alloc, words.as_slice(), &wanted, &came)
 }

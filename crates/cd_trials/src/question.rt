@@ -1,6 +1,7 @@
 //! Whether a pair of types is answered rightly.
-use crate::answer::{Answer, answer_to, difference, one_file, owned};
-use cd_base::memory_files::MemoryFiles;
+use crate::answer::Answer;
+use crate::texts::{answer_to_texts, texts_differ};
+use crate::top_call::TopCall;
 use std::alloc::{AllocError, Global};
 
 // The name of the file of declarations.
@@ -9,11 +10,13 @@ const FILE: &str = "types.cd";
 /// How the answer differs from yes, if it does.
 pub(crate) fn within_differs(
     alloc: Global,
+    top: &impl TopCall,
     types: &str,
     first: &str,
     second: &str,
 ) -> Result<Option<String>, AllocError> {
-    differs(alloc, types, first, second, 0, "yes\n")
+    let wanted = Answer::output(alloc, String::from_str(alloc, "yes\n")?);
+    differs(alloc, top, types, first, second, &wanted)
 }
 
 /// How the answer differs from no and an element of the first type outside the second, if it does.
@@ -21,59 +24,58 @@ pub(crate) fn within_differs(
 /// a type.
 pub(crate) fn apart_differs(
     alloc: Global,
+    top: &impl TopCall,
     types: &str,
     first: &str,
     second: &str,
 ) -> Result<Option<String>, AllocError> {
-    let came = answer(alloc, types, first, second)?;
+    let came = answer(alloc, top, types, first, second)?;
     let Some(element) = came.element() else {
-        return differs(alloc, types, first, second, 1, "no: ELEMENT\n");
+        let wanted = Answer {
+            status: 1,
+            out: String::from_str(alloc, "no: ELEMENT\n")?,
+            err: String::new(alloc),
+        };
+        return differs(alloc, top, types, first, second, &wanted);
     };
     if element.contains("fun{") {
         return Ok(None);
     }
-    match within_differs(alloc, types, element, first)? {
-        None => differs(alloc, types, element, second, 1, came.out.as_str()),
+    match within_differs(alloc, top, types, element, first)? {
+        None => differs(alloc, top, types, element, second, &came),
         difference => Ok(difference),
     }
 }
 
-// How the answer differs from this one on output, if it does.
+// How the answer differs from this one, if it does.
 fn differs(
     alloc: Global,
+    top: &impl TopCall,
     types: &str,
     first: &str,
     second: &str,
-    status: u64,
-    out: &str,
+    wanted: &Answer,
 ) -> Result<Option<String>, AllocError> {
-    let came = answer(alloc, types, first, second)?;
-    let wanted = Answer {
-        status,
-        out: String::from_str(alloc, out)?,
-        err: String::new(alloc),
-    };
-    let words = words_of(alloc, types, first, second)?;
-    difference(alloc, words.as_slice(), &wanted, &came)
+    if types.is_empty() {
+        texts_differ(alloc, top, &["sub", first, second], &[], wanted)
+    } else {
+        let words = ["sub", "--types", FILE, first, second];
+        texts_differ(alloc, top, &words, &[(FILE, types)], wanted)
+    }
 }
 
 // What the program answers, if it is asked whether the first type is within the second.
-fn answer(alloc: Global, types: &str, first: &str, second: &str) -> Result<Answer, AllocError> {
-    let words = words_of(alloc, types, first, second)?;
-    let files = MemoryFiles::new(alloc, one_file(alloc, FILE, types)?, Vec::new(alloc));
-    answer_to(alloc, words.as_slice(), files, &[])
-}
-
-// The words that ask it, with declarations or without.
-fn words_of(
+fn answer(
     alloc: Global,
+    top: &impl TopCall,
     types: &str,
     first: &str,
     second: &str,
-) -> Result<Vec<String>, AllocError> {
+) -> Result<Answer, AllocError> {
     if types.is_empty() {
-        owned(alloc, &["sub", first, second])
+        answer_to_texts(alloc, top, &["sub", first, second], &[])
     } else {
-        owned(alloc, &["sub", "--types", FILE, first, second])
+        let words = ["sub", "--types", FILE, first, second];
+        answer_to_texts(alloc, top, &words, &[(FILE, types)])
     }
 }

@@ -1,14 +1,19 @@
 //! Whether a row is answered exactly as it says.
 use crate::answer::{Answer, answer_to, difference};
+use crate::top_call::TopCall;
 use crate::values::{list, number, text};
 use cd_base::memory_files::MemoryFiles;
 use std::alloc::{AllocError, Global};
 use toml::{Table, Value};
 
 /// How the answer to a row differs from what the row says, if it does.
-pub(crate) fn row_differs(alloc: Global, row: &Table) -> Result<Option<String>, AllocError> {
+pub(crate) fn row_differs(
+    alloc: Global,
+    top: &impl TopCall,
+    row: &Table,
+) -> Result<Option<String>, AllocError> {
     let words = words_of(alloc, row)?;
-    let came = answer(alloc, row, words.as_slice())?;
+    let came = answer(alloc, top, row, words.as_slice())?;
     let wanted = Answer {
         status: number(row.get("status")),
         out: repeated(alloc, row, row.get("out"))?,
@@ -18,14 +23,19 @@ pub(crate) fn row_differs(alloc: Global, row: &Table) -> Result<Option<String>, 
 }
 
 // What the program answers to the words of a row.
-fn answer(alloc: Global, row: &Table, words: &[String]) -> Result<Answer, AllocError> {
+fn answer(
+    alloc: Global,
+    top: &impl TopCall,
+    row: &Table,
+    words: &[String],
+) -> Result<Answer, AllocError> {
     let failing_reads = list(row.get("failing_reads"))
         .iter()
         .map(|read| number(Some(read)))
         .collect(alloc)?;
     let files = MemoryFiles::new(alloc, files_of(alloc, row)?, failing_reads);
     let failing_puts = failing_puts(alloc, row)?;
-    answer_to(alloc, words, files, failing_puts.as_slice())
+    answer_to(alloc, top, words, files, failing_puts.as_slice())
 }
 
 /// The words of a row.

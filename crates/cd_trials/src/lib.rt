@@ -1,4 +1,5 @@
-//! Puts rows of data to the top call, and prints each that is answered otherwise than it says.
+//! Puts rows of data to the top call of a program, and prints each that is answered otherwise than
+//! it says.
 //!
 //! The files of data are TOML. A row has words and exactly the answer to them; questions have pairs
 //! of types, and declarations if there are any:
@@ -38,35 +39,49 @@
 #![tactic(auto)]
 
 mod answer;
+mod checked;
 mod file;
+mod form;
 mod place;
 mod prefixes;
 mod printed;
-mod program;
 mod question;
 mod row;
 mod run;
+pub mod tally;
+mod texts;
+pub mod top_call;
 mod values;
 
+use crate::file::put_file;
+use crate::form::check_form;
+use crate::tally::{FileTally, Tally};
+use crate::top_call::TopCall;
 use anyhow::{Context, Result};
-use file::{Tally, put_file};
-use std::fs;
-use std::process::ExitCode;
-use toml::Table;
+use std::rt::Files;
+use std::{fs, io};
 
-fn main(rt: HostRuntime) -> Result<ExitCode> {
+/// Puts the rows of all files of data, which are the files `*.toml` of the folder in which the
+/// program runs. Each row that differs is printed, and at the end how many there are and how many
+/// of them differ.
+pub fn put_all<R: Print + AllocGlobal + Files + Clone + Drop, T: TopCall>(
+    rt: &R,
+    top: &T,
+) -> Result<Tally> {
     let mut tally = Tally { rows: 0, differ: 0 };
-    for name in data_files(&rt)?.as_slice() {
+    for name in data_files(rt)?.as_slice() {
         let name = name.as_str();
-        let file = read(&rt, name).context(format_args!("{name}"))?;
-        put_file(&rt, name, &file, &mut tally).context(format_args!("{name}"))?;
+        let put = put_named(rt, top, name).context(format_args!("{name}"))?;
+        print_differences(rt, name, put.differences.as_slice())?;
+        tally.rows = tally.rows.saturating_add(put.rows);
+        tally.differ = tally.differ.saturating_add(put.differences.len() as u64);
     }
     println!(rt; "{} rows, {} differ", tally.rows, tally.differ)?;
-    Ok(ExitCode::from(u8::from(tally.differ != 0)))
+    Ok(tally)
 }
 
 // The names of the files of data, in order.
-fn data_files(rt: &HostRuntime) -> Result<Vec<String>> {
+fn data_files<R: AllocGlobal + Files + Clone + Drop>(rt: &R) -> io::Result<Vec<String>> {
     let mut names = Vec::new(rt.alloc());
     for entry in fs::read_dir(rt, ".")? {
         let entry = entry?;
@@ -78,8 +93,17 @@ fn data_files(rt: &HostRuntime) -> Result<Vec<String>> {
     Ok(names)
 }
 
-// What a file of data holds.
-fn read(rt: &HostRuntime, name: &str) -> Result<Table> {
+// Puts the rows of the file of this name.
+fn put_named(rt: &(impl AllocGlobal + Files), top: &impl TopCall, name: &str) -> Result<FileTally> {
     let text = fs::read_to_string(rt, name)?;
-    Ok(toml::table_from_str(rt.alloc(), text.as_str())?)
+    let file = toml::table_from_str(rt.alloc(), text.as_str())?;
+    check_form(&file)?;
+    Ok(put_file(rt.alloc(), top, &file)?)
+}
+
+fn print_differences(rt: &impl Print, name: &str, differences: &[String]) -> io::Result<()> {
+    for difference in differences {
+        println!(rt; "{name}:{difference}")?;
+    }
+    Ok(())
 }
