@@ -12,7 +12,7 @@ use Rattle.cd_model.specs.Formula.{Formula, Field, Ints, Chars, Pair, Record, Is
 use Rattle.cd_regex.specs.Regular.{AsksBelow}
 use Rattle.cd_regex.specs.Automaton.{sequence_formulas}
 use Rattle.cd_regex.proofs.Holding.{batch_holds}
-use Rattle.cd_resolve.specs.Inner.Equation.{Equation, Equations, Is, And, Or}
+use Rattle.cd_shared.specs.Equation.{Equation, Equations, Is, And, Or}
 use Rattle.cd_resolve.specs.Inner.Leaves.{integers, characters, Joint, Pairs, Arrows, joined, sorted}
 use Rattle.cd_resolve.specs.Inner.Members.{Sign}
 use Rattle.cd_resolve.specs.Inner.Solves.{IsNode}

@@ -8,7 +8,7 @@ use Rattle.cd_model.specs.Guarded.{IsGuarded}
 use Rattle.cd_model.specs.Scope.{Scope, Declared}
 use Rattle.cd_model.proofs.Leading.{IsIn}
 use Rattle.cd_resolve.specs.Inner.Names.{AreBelow}
-use Rattle.cd_resolve.specs.Inner.Equation.{Equations, Is, Same}
+use Rattle.cd_shared.specs.Equation.{Equations, Is, Same}
 use Rattle.cd_resolve.specs.Inner.Links.{links}
 use Rattle.cd_resolve.specs.Inner.Order.{Ends}
 use Rattle.cd_resolve.proofs.EndsOfLists.{ends_by_row}

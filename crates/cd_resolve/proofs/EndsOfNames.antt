@@ -15,7 +15,7 @@ use Rattle.cd_model.specs.Written.{kind_of}
 use Rattle.cd_model.proofs.Covered.{Covered, led_to}
 use Rattle.cd_model.proofs.Leading.{IsIn, without, shorter, Leads, leads_closed, is_undeclared, leads_on}
 use Rattle.cd_resolve.specs.Inner.Names.{node_of, AreBelow}
-use Rattle.cd_resolve.specs.Inner.Equation.{Equations, Same}
+use Rattle.cd_shared.specs.Equation.{Equations, Same}
 use Rattle.cd_resolve.specs.Inner.Equates.{Equates, EquatesKind, AllEquated}
 use Rattle.cd_resolve.specs.Inner.ScopeLevels.{ScopeLevels, scope_of, node_under}
 use Rattle.cd_resolve.proofs.EndsOfTrees.{EndsAt, EndsAtNames, older_ends, at_equation, tree_ends, kind_ends}

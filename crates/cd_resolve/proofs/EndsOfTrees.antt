@@ -14,7 +14,7 @@ use Rattle.cd_model.specs.Scope.{Scope}
 use Rattle.cd_model.specs.Written.{kind_of}
 use Rattle.cd_model.proofs.Covered.{each_both}
 use Rattle.cd_model.proofs.Places.{AreClosed}
-use Rattle.cd_resolve.specs.Inner.Equation.{Equation, Equations, Is, And, Or}
+use Rattle.cd_shared.specs.Equation.{Equation, Equations, Is, And, Or}
 use Rattle.cd_resolve.specs.Inner.Equates.{IsAt, HasLeaf, EquatesText, HasUnion, HasMeet, Equates, EquatesKind}
 use Rattle.cd_resolve.specs.Inner.Equates.{EquatesEach, EquatesSigns, AllEquated}
 use Rattle.cd_resolve.specs.Inner.ScopeLevels.{ScopeLevels, scope_of, node_under}

@@ -4,7 +4,7 @@ use Rattle.std.proofs.lemmas.List.{append_assoc, length-map}
 use Rattle.cd_syntax.specs.TypeTree.{Declarations, declarations_of}
 use Rattle.cd_syntax.specs.PlainTree.{plain_declaration}
 use Rattle.cd_syntax.specs.declared.type_tree.Declaration.{Declaration as CodeDeclaration}
-use Rattle.cd_resolve.specs.Inner.Equation.{Equations}
+use Rattle.cd_shared.specs.Equation.{Equations}
 use Rattle.cd_resolve.specs.Inner.ScopeLevels.{number_in}
 use Rattle.cd_resolve.specs.Inner.Walk.{unread, entered}
 use Rattle.cd_resolve.proofs.Counting.{number_is}

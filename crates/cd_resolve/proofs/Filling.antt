@@ -7,8 +7,8 @@ use Rattle.std.proofs.lemmas.List.{map-set}
 use Rattle.cd_model.specs.Formula.{Graph, Formula}
 use Rattle.cd_graph.specs.PlainFormula.{plain}
 use Rattle.cd_graph.specs.declared.formula.Formula.{Formula as CodeFormula}
-use Rattle.cd_resolve.specs.declared.equation.Equation.{Equation as CodeEquation}
-use Rattle.cd_resolve.specs.Inner.Equation.{Equation, Equations, plain_equation}
+use Rattle.cd_shared.specs.declared.equation.Equation.{Equation as CodeEquation}
+use Rattle.cd_shared.specs.Equation.{Equation, Equations, plain_equation}
 use Rattle.cd_resolve.specs.Inner.Solves.{made}
 use Rattle.cd_resolve.specs.Inner.Filling.{so_far, with_made, filled}
 

@@ -26,7 +26,7 @@ use Rattle.cd_model.specs.Written.{type_named, within}
 use Rattle.cd_model.proofs.Covered.{Covered, each_parts, covered_tree}
 use Rattle.cd_model.proofs.CoveredParts.{covered_first, covered_tuple, covered_argument, covered_arrows, covered_xml}
 use Rattle.cd_model.proofs.FormulasAlike.{built_ins_stand}
-use Rattle.cd_resolve.specs.Inner.Equation.{Equations, Is}
+use Rattle.cd_shared.specs.Equation.{Equations, Is}
 use Rattle.cd_resolve.specs.Inner.Equates.{IsAt, HasLeaf, Equates, EquatesKind, EquatesChain, EquatesFields}
 use Rattle.cd_resolve.specs.Inner.Equates.{EquatesRest, AllEquated}
 use Rattle.cd_resolve.specs.Inner.ScopeLevels.{ScopeLevels, scope_of}

@@ -17,7 +17,7 @@ use Rattle.cd_model.proofs.Covered.{led_to}
 use Rattle.cd_model.proofs.Leading.{IsIn, without, shorter, Leads, leads_closed, is_undeclared, leads_on}
 use Rattle.cd_model.proofs.Places as places
 use Rattle.cd_resolve.specs.Inner.Names.{node_of}
-use Rattle.cd_resolve.specs.Inner.Equation.{Equations, Same}
+use Rattle.cd_shared.specs.Equation.{Equations, Same}
 use Rattle.cd_resolve.specs.Inner.Equates.{Equates, EquatesKind, EquatesEach, EquatesSigns, AllEquated}
 use Rattle.cd_resolve.specs.Inner.ScopeLevels.{ScopeLevels, scope_of, node_under}
 use Rattle.cd_resolve.specs.Inner.Members.{Sign}

@@ -21,7 +21,7 @@ use Rattle.cd_model.specs.Written.{WrittenType, regular_in, regular_kind_in, reg
 use Rattle.cd_model.proofs.BothWays.{itself, through}
 use Rattle.cd_model.proofs.Covered.{each_parts, covered_tree}
 use Rattle.cd_regex.specs.Regular.{Regular, Regulars, NoRegular, ARegular, fits, fits_in_turn, fits_one}
-use Rattle.cd_resolve.specs.Inner.Equation.{Equations}
+use Rattle.cd_shared.specs.Equation.{Equations}
 use Rattle.cd_resolve.specs.Inner.Equates.{AllEquated, EquatesRegular, EquatesRegularKind, EquatesRegulars}
 use Rattle.cd_resolve.specs.Inner.ScopeLevels.{ScopeLevels, scope_of}
 use Rattle.cd_resolve.specs.Inner.Repeated.{repeated}

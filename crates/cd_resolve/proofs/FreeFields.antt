@@ -8,7 +8,7 @@ use Rattle.cd_syntax.specs.WellMadePattern.{IsWellMadePattern, AreWellMadePatter
 use Rattle.cd_model.specs.BuiltIns.{ANY}
 use Rattle.cd_model.specs.Formula.{Field}
 use Rattle.cd_matching.specs.WrittenPattern.{free_fields, others_in}
-use Rattle.cd_resolve.specs.Inner.Equation.{Equations}
+use Rattle.cd_shared.specs.Equation.{Equations}
 use Rattle.cd_resolve.specs.Inner.FreeFields.{free_named}
 use Rattle.cd_resolve.specs.Inner.PlainState.{HaveLabels}
 use Rattle.cd_resolve.specs.Inner.ScopeLevels.{ScopeLevels}

@@ -2,7 +2,7 @@
 use Rattle.std.proofs.Common.{◌≡◌, ℕ, ap, ◌∙◌}
 use Rattle.cd_sets.specs.declared.node_id.NodeId.{NodeId}
 use Rattle.cd_model.specs.Formula.{Graph, formula_at}
-use Rattle.cd_resolve.specs.Inner.Equation.{Equation, Equations}
+use Rattle.cd_shared.specs.Equation.{Equation, Equations}
 use Rattle.cd_resolve.specs.Inner.Equates.{IsAt}
 use Rattle.cd_resolve.specs.Inner.Solves.{Solves, made}
 

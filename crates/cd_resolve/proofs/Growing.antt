@@ -12,7 +12,7 @@ use Rattle.cd_syntax.specs.TypeTree.{AField, Declarations, NoDeclaration, ADecla
 use Rattle.cd_model.specs.Formula.{Formula, Field}
 use Rattle.cd_model.proofs.ByNumber.{got_after}
 use Rattle.cd_regex.specs.Regular.{Regular}
-use Rattle.cd_resolve.specs.Inner.Equation.{Equation, Equations, Same}
+use Rattle.cd_shared.specs.Equation.{Equation, Equations, Same}
 use Rattle.cd_resolve.specs.Inner.ScopeLevels.{ScopeLevels, number_in}
 use Rattle.cd_resolve.specs.Inner.Leaves.{characters, Joint, Pairs, Arrows}
 use Rattle.cd_resolve.specs.Inner.Members.{Sign, union_of, meet_of}

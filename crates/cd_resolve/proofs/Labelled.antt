@@ -5,7 +5,7 @@ use Rattle.cd_syntax.specs.Name.{Name, IsLabel}
 use Rattle.cd_syntax.specs.TypeTree.{Fields, NoField, AField}
 use Rattle.cd_syntax.specs.WellMadePattern.{AreWellMadePatternFields}
 use Rattle.cd_model.specs.Formula.{Field}
-use Rattle.cd_resolve.specs.Inner.Equation.{Equations}
+use Rattle.cd_shared.specs.Equation.{Equations}
 use Rattle.cd_resolve.specs.Inner.ScopeLevels.{ScopeLevels}
 use Rattle.cd_resolve.specs.Inner.PlainState.{HaveLabels}
 use Rattle.cd_resolve.specs.Inner.Walk.{walked, walked_fields, one_more}

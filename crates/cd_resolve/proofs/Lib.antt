@@ -43,6 +43,9 @@ pub mod Filling
 pub mod Settling
 pub mod SoundFormulas
 pub mod Solved
+pub mod SharedEquations
+pub mod SharedNodes
+pub mod SharedSolutions
 pub mod EndsOfTrees
 pub mod EndsOfNames
 pub mod EndsOfEquations
@@ -76,4 +79,5 @@ pub mod OuterNames
 pub mod GuardedNames
 pub mod NodesNamed
 pub mod Resolving
+pub mod SharedStanding
 pub mod Wanting

@@ -10,7 +10,7 @@ use Rattle.cd_sets.specs.declared.node_id.NodeId.{NodeId}
 use Rattle.cd_model.specs.AllOf.{AllOf}
 use Rattle.cd_model.specs.BuiltIns.{node}
 use Rattle.cd_model.proofs.Covered.{each_both}
-use Rattle.cd_resolve.specs.Inner.Equation.{Equation, Equations, Is, Same, And, Or}
+use Rattle.cd_shared.specs.Equation.{Equation, Equations, Is, Same, And, Or}
 use Rattle.cd_resolve.specs.Inner.Links.{number_at, numbers_of, numbers_under, links}
 use Rattle.cd_resolve.specs.Inner.Order.{row, AreRows}
 use Rattle.cd_resolve.specs.Inner.Solves.{IsNode, IsEquation, AreEquations}

@@ -10,7 +10,7 @@ use Rattle.cd_model.specs.Formula.{Formula, Field, Pair}
 use Rattle.cd_model.proofs.ByNumber.{got_after}
 use Rattle.cd_regex.specs.Regular.{Regular, regulars_of}
 use Rattle.cd_regex.specs.Automaton.{sequence_formulas}
-use Rattle.cd_resolve.specs.Inner.Equation.{Equation, Equations, Is, And, Or}
+use Rattle.cd_shared.specs.Equation.{Equation, Equations, Is, And, Or}
 use Rattle.cd_resolve.specs.Inner.ScopeLevels.{ScopeLevels}
 use Rattle.cd_resolve.specs.Inner.Leaves.{characters, Joint, joined}
 use Rattle.cd_resolve.specs.Inner.Members.{Sign}

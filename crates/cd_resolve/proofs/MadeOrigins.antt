@@ -13,7 +13,7 @@ use Rattle.cd_model.specs.Formula.{Formula, Pair}
 use Rattle.cd_model.specs.Scope.{Scope, Declared, names_in, names_declared, names_over}
 use Rattle.cd_model.proofs.Covered.{Covered, each_parts, covered_tree}
 use Rattle.cd_model.proofs.ByNumber.{got_after}
-use Rattle.cd_resolve.specs.Inner.Equation.{Equation, Equations, Is, Same}
+use Rattle.cd_shared.specs.Equation.{Equation, Equations, Is, Same}
 use Rattle.cd_resolve.specs.Inner.ScopeLevels.{ScopeLevels, scope_of, number_in}
 use Rattle.cd_resolve.specs.Inner.Leaves.{characters, Joint, joined}
 use Rattle.cd_resolve.specs.Inner.Members.{Sign}

@@ -8,7 +8,7 @@ use Rattle.cd_syntax.specs.TypeTree.{Tree, Declarations, NoDeclaration, ADeclara
 use Rattle.cd_model.specs.BuiltIns.{EMPTY, node}
 use Rattle.cd_model.specs.Scope.{Scope, Declared, tree_in, declared_or, declared_as}
 use Rattle.cd_resolve.specs.Inner.Names.{node_of}
-use Rattle.cd_resolve.specs.Inner.Equation.{Equations, Same}
+use Rattle.cd_shared.specs.Equation.{Equations, Same}
 use Rattle.cd_resolve.specs.Inner.Equates.{IsAt, Equates, AreEquated, AllEquated}
 use Rattle.cd_resolve.specs.Named.{index_in}
 use Rattle.cd_resolve.specs.Inner.ScopeLevels.{ScopeLevels, scope_of, node_under}

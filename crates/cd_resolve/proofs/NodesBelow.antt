@@ -8,7 +8,7 @@ use Rattle.cd_model.specs.AllOf.{AllOf}
 use Rattle.cd_model.proofs.Ones.{each_weaker}
 use Rattle.cd_regex.specs.Regular.{AsksBelow}
 use Rattle.cd_resolve.specs.Inner.Names.{AreBelow}
-use Rattle.cd_resolve.specs.Inner.Equation.{Equations}
+use Rattle.cd_shared.specs.Equation.{Equations}
 use Rattle.cd_resolve.specs.Inner.ScopeLevels.{ScopeLevel, ScopeLevels, number_in}
 use Rattle.cd_resolve.specs.Inner.Walk.{level_after, walked, walked_regular}
 use Rattle.cd_resolve.proofs.NodesOfWalks.{IsOfNodes, HasNodes, HaveNodes, tree_has, regular_asks}

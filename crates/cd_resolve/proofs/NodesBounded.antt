@@ -7,7 +7,7 @@ use Rattle.cd_syntax.specs.Name.{Name}
 use Rattle.cd_model.specs.AllOf.{AllOf}
 use Rattle.cd_model.specs.Formula.{Formula, IsFormula}
 use Rattle.cd_resolve.specs.Inner.Names.{AreBelow}
-use Rattle.cd_resolve.specs.Inner.Equation.{Equation, Equations, Is, Same}
+use Rattle.cd_shared.specs.Equation.{Equation, Equations, Is, Same}
 use Rattle.cd_resolve.specs.Inner.Solves.{IsNode, IsEquation}
 use Rattle.cd_resolve.specs.Inner.Walk.{Read, unread, settled}
 use Rattle.cd_resolve.proofs.NodesOfWalks.{IsOfNodes}

@@ -8,7 +8,7 @@ use Rattle.cd_model.specs.Scope.{Scope, Declared}
 use Rattle.cd_model.specs.Written as written
 use Rattle.cd_model.specs.Written.{WrittenType, kind_of, within}
 use Rattle.cd_model.proofs.Covered.{Covered}
-use Rattle.cd_resolve.specs.Inner.Equation.{Equations}
+use Rattle.cd_shared.specs.Equation.{Equations}
 use Rattle.cd_resolve.specs.Inner.Equates.{Equates, EquatesKind, AllEquated}
 use Rattle.cd_resolve.specs.Inner.ScopeLevels.{ScopeLevels, scope_of}
 

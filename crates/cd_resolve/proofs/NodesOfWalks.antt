@@ -17,7 +17,7 @@ use Rattle.cd_model.proofs.Ones.{each_weaker}
 use Rattle.cd_regex.specs.Regular.{Regular, AsksBelow}
 use Rattle.cd_regex.specs.Automaton.{sequence_formulas}
 use Rattle.cd_resolve.specs.Inner.Names.{node_of}
-use Rattle.cd_resolve.specs.Inner.Equation.{Equation, Equations, Is}
+use Rattle.cd_shared.specs.Equation.{Equation, Equations, Is}
 use Rattle.cd_resolve.specs.Named.{index_in}
 use Rattle.cd_resolve.specs.Inner.ScopeLevels.{ScopeLevel, ScopeLevels, declared_or, node_under, number_in}
 use Rattle.cd_resolve.specs.Inner.Leaves.{characters, Joint, Pairs, Arrows}

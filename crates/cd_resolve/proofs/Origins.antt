@@ -9,7 +9,7 @@ use Rattle.cd_model.specs.Formula.{Formula}
 use Rattle.cd_model.specs.Scope.{Scope, Declared}
 use Rattle.cd_model.specs.Written.{kind_of}
 use Rattle.cd_model.proofs.Covered.{Covered}
-use Rattle.cd_resolve.specs.Inner.Equation.{Equations, Is, Same}
+use Rattle.cd_shared.specs.Equation.{Equations, Is, Same}
 use Rattle.cd_resolve.specs.Inner.ScopeLevels.{ScopeLevels, scope_of}
 use Rattle.cd_resolve.specs.Inner.Equates.{Equates, EquatesKind, AllEquated}
 

@@ -23,7 +23,7 @@ use Rattle.cd_resolve.specs.Faults.{IsPart, IsFault, IsFaultOfType, IsFaultOfDec
 use Rattle.cd_resolve.specs.Named.{Names, AreNamed, type_named, index_in}
 use Rattle.cd_resolve.specs.Wanted.{Pairwise}
 use Rattle.cd_resolve.specs.Inner.Names.{AreBelow, node_of}
-use Rattle.cd_resolve.specs.Inner.Equation.{Equations}
+use Rattle.cd_shared.specs.Equation.{Equations}
 use Rattle.cd_resolve.specs.Inner.Equates.{Equates, EquatesEach, AllEquated}
 use Rattle.cd_resolve.specs.Inner.ScopeLevels.{ScopeLevels, node_under, declared_or, number_in}
 use Rattle.cd_resolve.specs.Inner.Links.{links}
@@ -54,7 +54,7 @@ pub begins_with : (graph : Graph) → Begins graph → 14 ≤ length graph
 begins_with graph begins = rw begins.1 (omega arith)
 
 -- a longer graph begins with the built-in nodes too
-begins_longer : (graph more : Graph) → Begins graph → Begins (graph ++ more)
+pub begins_longer : (graph more : Graph) → Begins graph → Begins (graph ++ more)
 begins_longer graph more begins =
     (begins.0 ++ more, ap (λ graph. graph ++ more) begins.1 ∙ append_assoc built_ins begins.0 more)
 

@@ -13,7 +13,7 @@ use Rattle.cd_model.specs.BuiltIns.{node}
 use Rattle.cd_model.specs.Formula as formula
 use Rattle.cd_model.specs.Formula.{Graph, Formula, Nothing, formula_at, formulas_of}
 use Rattle.cd_resolve.specs.Inner.Order.{IsOneOf, ComeAfter, row}
-use Rattle.cd_resolve.specs.Inner.Equation.{Equation, Equations, Is, Same, And, Or}
+use Rattle.cd_shared.specs.Equation.{Equation, Equations, Is, Same, And, Or}
 use Rattle.cd_resolve.specs.Inner.Solves.{signed, made}
 use Rattle.cd_resolve.specs.Inner.Links.{number_at, numbers_of, numbers_under, links}
 use Rattle.cd_resolve.specs.Inner.Filling.{so_far, with_made, filled}

@@ -10,7 +10,7 @@ use Rattle.cd_model.specs.BuiltIns.{EMPTY, ANY, node}
 use Rattle.cd_model.specs.Formula as formula
 use Rattle.cd_model.specs.Formula.{Graph, Formula, Formulas, NoFormula, AFormula, formula_at, formulas_of}
 use Rattle.cd_resolve.specs.Inner.Equates.{HasUnion, HasMeet}
-use Rattle.cd_resolve.specs.Inner.Equation.{Equations, And, Or}
+use Rattle.cd_shared.specs.Equation.{Equations, And, Or}
 use Rattle.cd_resolve.specs.Inner.Members.{Sign, same_node, adds_nothing, joined_to, union_of, same_sign, takes_nothing}
 use Rattle.cd_resolve.specs.Inner.Members.{met_with, meet_of}
 use Rattle.cd_resolve.specs.Inner.Solves.{Solves, signed}

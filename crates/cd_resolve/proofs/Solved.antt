@@ -15,7 +15,7 @@ use Rattle.cd_model.specs.Formula.{Graph, Formula, Nothing, IsFormula, IsGraph, 
 use Rattle.cd_model.proofs.Ones.{each_weaker}
 use Rattle.cd_model.proofs.FormulasAmongMore.{each_among_more}
 use Rattle.cd_resolve.specs.Inner.Order.{IsOrder, ComeAfter}
-use Rattle.cd_resolve.specs.Inner.Equation.{Equation, Equations, Is, Same, And, Or}
+use Rattle.cd_shared.specs.Equation.{Equation, Equations, Is, Same, And, Or}
 use Rattle.cd_resolve.specs.Inner.Solves.{made, IsNode, IsEquation, AreEquations, Solves, AgreesWith}
 use Rattle.cd_resolve.specs.Inner.Links.{numbers_under, links}
 use Rattle.cd_resolve.specs.Inner.Filling.{at_once, left, so_far, filled, AreFilled}

@@ -8,7 +8,7 @@ use Rattle.cd_sets.specs.declared.node_id.NodeId.{NodeId}
 use Rattle.cd_model.specs.AllOf.{AllOf}
 use Rattle.cd_model.specs.BuiltIns.{node}
 use Rattle.cd_model.specs.Formula.{Graph, Formula, Nothing, IsFormula, AreFormulas, formula_at, formulas_of}
-use Rattle.cd_resolve.specs.Inner.Equation.{Equation, Equations, Is, Same, And, Or}
+use Rattle.cd_shared.specs.Equation.{Equation, Equations, Is, Same, And, Or}
 use Rattle.cd_resolve.specs.Inner.Solves.{signed, made}
 use Rattle.cd_resolve.specs.Inner.Filling.{so_far, with_made, filled}
 use Rattle.cd_resolve.proofs.EachOne.{each_set}

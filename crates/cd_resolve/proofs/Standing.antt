@@ -10,7 +10,7 @@ use Rattle.cd_model.specs.StandsFor.{StandsFor}
 use Rattle.cd_model.specs.Written.{Written, kind_of, number_of_names}
 use Rattle.cd_model.proofs.NamesAlike.{IsOfType, all_seen}
 use Rattle.cd_resolve.specs.Inner.Names.{node_of}
-use Rattle.cd_resolve.specs.Inner.Equation.{Equations}
+use Rattle.cd_shared.specs.Equation.{Equations}
 use Rattle.cd_resolve.specs.Inner.Equates.{Equates, AllEquated}
 use Rattle.cd_resolve.specs.Inner.ScopeLevels.{ScopeLevels, scope_of}
 use Rattle.cd_resolve.specs.Inner.Solves.{Solves}

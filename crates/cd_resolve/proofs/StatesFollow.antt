@@ -12,7 +12,7 @@ use Rattle.cd_regex.specs.Automaton.{Follow, state_formula, all_states, sequence
 use Rattle.cd_regex.specs.Regular.{Regular, AsksBelow}
 use Rattle.cd_regex.specs.Sequences.{HoldsSequences}
 use Rattle.cd_regex.proofs.Holding.{batch_holds}
-use Rattle.cd_resolve.specs.Inner.Equation.{Equations, Is}
+use Rattle.cd_shared.specs.Equation.{Equations, Is}
 use Rattle.cd_resolve.specs.Inner.Equates.{HaveFormulas}
 use Rattle.cd_resolve.specs.Inner.Solves.{Solves}
 use Rattle.cd_resolve.proofs.GivenFormulas.{solved}

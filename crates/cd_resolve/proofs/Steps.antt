@@ -11,7 +11,7 @@ use Rattle.cd_graph.specs.declared.fields.Field.{Field as CodeField}
 use Rattle.cd_resolve.specs.declared.state.Joint.{Joint as CodeJoint}
 use Rattle.cd_resolve.specs.declared.state.Joint.TheVariants as joint
 use Rattle.cd_resolve.specs.Inner.ScopeLevels.{ScopeLevels}
-use Rattle.cd_resolve.specs.Inner.Equation.{Equations}
+use Rattle.cd_shared.specs.Equation.{Equations}
 use Rattle.cd_resolve.specs.Inner.PlainState.{plain_joint, plain_one, chain_of}
 use Rattle.cd_resolve.specs.Inner.Walk.{Read, one_more, settled, chained_all, walked, walked_kind, walked_trees}
 use Rattle.cd_resolve.specs.Inner.Walk.{walked_signs, walked_fields, walked_declared}

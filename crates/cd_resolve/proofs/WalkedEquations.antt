@@ -11,7 +11,7 @@ use Rattle.cd_model.specs.Formula.{Formula, Field, Xml, Record}
 use Rattle.cd_regex.specs.Regular.{Regular, regulars_of}
 use Rattle.cd_regex.specs.Automaton.{sequence_formulas}
 use Rattle.cd_resolve.specs.Inner.Names.{AreBelow}
-use Rattle.cd_resolve.specs.Inner.Equation.{Equation, Equations, Is, Same}
+use Rattle.cd_shared.specs.Equation.{Equation, Equations, Is, Same}
 use Rattle.cd_resolve.specs.Inner.ScopeLevels.{ScopeLevels, number_in}
 use Rattle.cd_resolve.specs.Inner.Leaves.{Pairs, Arrows, sorted}
 use Rattle.cd_resolve.specs.Inner.Members.{Sign, union_of, meet_of}

@@ -16,7 +16,7 @@ use Rattle.cd_model.proofs.CoveredParts.{covered_xml}
 use Rattle.cd_regex.specs.Regular.{Regular}
 use Rattle.cd_regex.specs.Automaton.{sequence_formulas}
 use Rattle.cd_resolve.specs.Inner.Names.{AreBelow}
-use Rattle.cd_resolve.specs.Inner.Equation.{Equations, Is}
+use Rattle.cd_shared.specs.Equation.{Equations, Is}
 use Rattle.cd_resolve.specs.Inner.ScopeLevels.{ScopeLevels, scope_of, number_in}
 use Rattle.cd_resolve.specs.Inner.Leaves.{Pairs, Arrows, sorted, atom}
 use Rattle.cd_resolve.specs.Inner.Members.{Sign, union_of, meet_of}

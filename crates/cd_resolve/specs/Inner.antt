@@ -13,7 +13,6 @@ pub mod ScopeLevels
 pub mod Leaves
 pub mod Members
 pub mod Repeated
-pub mod Equation
 pub mod Walk
 pub mod PlainState
 pub mod PlainBase

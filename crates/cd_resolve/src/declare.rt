@@ -4,7 +4,7 @@ ghost use Rattle.cd_syntax.specs.TypeTree.{Where};
 ghost use Rattle.cd_syntax.specs.PlainTree.{plain, plain_declarations};
 ghost use Rattle.cd_syntax.specs.WellMadePattern.{IsWellMadePattern};
 ghost use Rattle.cd_syntax.specs.WellMadePattern.{AreWellMadePatternDeclarations};
-ghost use Rattle.cd_resolve.specs.Inner.Equation.{plain_equations};
+ghost use Rattle.cd_shared.specs.Equation.{plain_equations};
 ghost use Rattle.cd_resolve.specs.Inner.Finding.{innermost, found_in_kind, found_in_declared};
 ghost use Rattle.cd_resolve.specs.Inner.Finding.{found_in_list, entered as entered_list};
 ghost use Rattle.cd_resolve.specs.Inner.PlainBase.{names_outside, lists_seen, lists_outside};

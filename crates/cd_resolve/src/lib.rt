@@ -7,7 +7,6 @@ mod compare;
 mod cycle;
 mod declarations;
 mod declare;
-mod equation;
 pub mod error;
 pub mod fault;
 mod found;

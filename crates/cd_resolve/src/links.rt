@@ -1,11 +1,11 @@
 //! Which formulas are copied into which, as rows of numbers.
 ghost use Rattle.std.specs.Prelude.{◌≡◌, ◌++◌, map, IfOk, OnOk};
 ghost use Rattle.std.specs.Option.{option_map};
-ghost use Rattle.cd_resolve.specs.Inner.Equation.{plain_equation, plain_equations};
+ghost use Rattle.cd_shared.specs.Equation.{plain_equation, plain_equations};
 ghost use Rattle.cd_resolve.specs.Inner.Links.{number_at, numbers_of, numbers_under, links};
 
-use crate::equation::Equation;
 use cd_sets::node_id::NodeId;
+use cd_shared::Equation;
 use std::alloc::{AllocError, Global};
 
 // Puts the number of a node's equation, if it has one, at the end of a row.

@@ -5,7 +5,7 @@ ghost use Rattle.cd_syntax.specs.PlainTree.{plain_fields, plain_rest};
 ghost use Rattle.cd_syntax.specs.WellMadePattern.{AreWellMadePatternFields};
 ghost use Rattle.cd_syntax.specs.WellMadePattern.{IsWellMadePatternRest};
 ghost use Rattle.cd_graph.specs.PlainFormula.{plain_named};
-ghost use Rattle.cd_resolve.specs.Inner.Equation.{plain_equations};
+ghost use Rattle.cd_shared.specs.Equation.{plain_equations};
 ghost use Rattle.cd_resolve.specs.Inner.Finding.{innermost, labelled, found_in_kind};
 ghost use Rattle.cd_resolve.specs.Inner.Finding.{found_in_fields, found_in_rest};
 ghost use Rattle.cd_resolve.specs.Inner.PlainBase.{names_outside, lists_seen};

@@ -7,7 +7,7 @@ ghost use Rattle.cd_syntax.specs.WellMadePattern.{IsWellMadePatternRegularKind};
 ghost use Rattle.cd_syntax.specs.WellMadePattern.{AreWellMadePatternRegulars};
 ghost use Rattle.cd_regex.specs.PlainRegular.{plain as plain_reg, plain_list as plain_regs};
 ghost use Rattle.cd_regex.specs.Regular.{Alt, NoRegular};
-ghost use Rattle.cd_resolve.specs.Inner.Equation.{plain_equations};
+ghost use Rattle.cd_shared.specs.Equation.{plain_equations};
 ghost use Rattle.cd_resolve.specs.Inner.Finding.{innermost, found_in_regular};
 ghost use Rattle.cd_resolve.specs.Inner.Finding.{found_in_regular_kind, found_in_regulars};
 ghost use Rattle.cd_resolve.specs.Inner.PlainBase.{names_outside, lists_seen};

@@ -1,25 +1,26 @@
 //! The formulas of equations, each made of those that it reads.
-ghost use Rattle.std.specs.Prelude.{◌≡◌, ℕ, ◌+◌, ◌<◌, ◌≤◌, ◌++◌, map, length, Some, IfOk};
+ghost use Rattle.std.specs.Prelude.{◌≡◌, ℕ, ◌+◌, ◌<◌, ◌≤◌, map, length, Some, IfOk};
 ghost use Rattle.std.specs.Prelude.{slice_set};
 ghost use Rattle.std.specs.Option.{option_map};
 ghost use Rattle.cd_model.specs.AllOf.{AllOf};
-ghost use Rattle.cd_model.specs.Formula.{Graph as PlainGraph, IsFormula};
+ghost use Rattle.cd_model.specs.Formula.{IsFormula};
 ghost use Rattle.cd_graph.specs.Nodes.{nodes};
 ghost use Rattle.cd_graph.specs.PlainFormula.{plain, plain_list};
-ghost use Rattle.cd_resolve.specs.Inner.Equation.{Equation as PlainEquation, plain_equation};
-ghost use Rattle.cd_resolve.specs.Inner.Equation.{plain_equations};
+ghost use Rattle.cd_shared.specs.Equation.{Equation as PlainEquation, plain_equation};
+ghost use Rattle.cd_shared.specs.Equation.{plain_equations};
+ghost use Rattle.cd_shared.specs.Shared.{class_in};
 ghost use Rattle.cd_resolve.specs.Inner.Solves.{signed, made, IsNode, IsEquation, AreEquations};
-ghost use Rattle.cd_resolve.specs.Inner.Solves.{AgreesWith, Solves};
+ghost use Rattle.cd_resolve.specs.Inner.Solves.{IsSolution};
 ghost use Rattle.cd_resolve.specs.Inner.Links.{links};
 ghost use Rattle.cd_resolve.specs.Inner.Order.{Ends};
 ghost use Rattle.cd_resolve.specs.Inner.Filling.{at_once, left, so_far, with_made, filled};
 ghost use Rattle.cd_resolve.specs.Inner.Filling.{AreFilled};
 
-use crate::equation::Equation;
 use crate::links::links;
 use crate::ordering::order;
 use cd_graph::{Formula, Formulas, Graph};
 use cd_sets::node_id::NodeId;
+use cd_shared::{Classes, Equation, share};
 use std::alloc::{AllocError, Global};
 use std::rc::Rc;
 
@@ -255,27 +256,40 @@ fn formulas_of(
     )
 }
 
+/// The formulas of equations, in which equal nodes are named by one number.
+#[derive(Drop)]
+pub(crate) struct Solution {
+    pub(crate) formulas: Formulas,
+    pub(crate) classes: Classes,
+}
+
 /// The formulas of equations: put after those of a graph of `first` nodes that begins with this
-/// one, they solve them.
+/// one, they solve them, but that the nodes in them are named by their classes.
 pub(crate) fn solve(
     alloc: Global,
     old: &Graph,
     first: usize,
     equations: Vec<Option<Equation>>,
-) -> Result<Formulas, AllocError>
+) -> Result<Solution, AllocError>
     requires sound { AreEquations (length (nodes old.now)) first (plain_equations equations.items) }
     requires ends { (number : ℕ) → number < length equations.items
         → Ends (links first (plain_equations equations.items)) number }
     requires old { length (nodes old.now) ≤ first }
-    ensures number { IfOk result (λ batch. length (plain_list batch) ≡ length equations.items) }
-    ensures formulas { IfOk result
-        (λ batch. AllOf (IsFormula (first + length (plain_list batch))) (plain_list batch)) }
-    ensures solves { IfOk result (λ batch. (graph : PlainGraph) → length graph ≡ first
-        → AgreesWith (nodes old.now) graph
-        → Solves (graph ++ plain_list batch) first (plain_equations equations.items)) }
+    ensures number { IfOk result
+        (λ solution. length (plain_list solution.formulas) ≡ length equations.items) }
+    ensures formulas { IfOk result (λ solution.
+        AllOf (IsFormula (first + length (plain_list solution.formulas)))
+        (plain_list solution.formulas)) }
+    ensures solves { IfOk result (λ solution. IsSolution (nodes old.now) first
+        (plain_equations equations.items) (class_in solution.classes)
+        (plain_list solution.formulas)) }
 {
     // With its length it is known that the old formulas are those of a graph.
     let _nodes = old.len();
-    let formulas = formulas_of(alloc, old, first, equations)?;
-    Ok(Formulas::of(formulas)?)
+    let shared = share(alloc, first, equations)?;
+    let formulas = formulas_of(alloc, old, first, shared.equations)?;
+    Ok(Solution {
+        formulas: Formulas::of(formulas)?,
+        classes: shared.classes,
+    })
 }

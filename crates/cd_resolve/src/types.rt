@@ -71,8 +71,11 @@ pub fn resolve<'t>(
         → AreNamed (graph ++ plain_list batch.formulas) (plain_names batch.names)) }
 {
     let (equations, names) = read_declarations(alloc, first, declared)?;
-    let formulas = solve(alloc, &Graph::new(alloc)?, first, equations)?;
-    Ok(Batch { formulas, names })
+    let solution = solve(alloc, &Graph::new(alloc)?, first, equations)?;
+    Ok(Batch {
+        formulas: solution.formulas,
+        names,
+    })
 }
 
 /// A node, for this graph, of a type that sees declared names.
@@ -145,6 +148,10 @@ pub fn resolve_type_from(
 {
     graph.knows();
     let (equations, root) = read_type(alloc, first, names, tree)?;
-    let formulas = solve(alloc, graph, first, equations)?;
-    Ok(TypeBatch { formulas, root })
+    let solution = solve(alloc, graph, first, equations)?;
+    let root = solution.classes.class(root);
+    Ok(TypeBatch {
+        formulas: solution.formulas,
+        root,
+    })
 }

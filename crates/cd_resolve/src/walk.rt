@@ -5,7 +5,7 @@ ghost use Rattle.cd_syntax.specs.PlainTree.{plain, plain_kind, plain_trees, plai
 ghost use Rattle.cd_syntax.specs.WellMade.{HaveTwoTrees};
 ghost use Rattle.cd_syntax.specs.WellMadePattern.{IsWellMadePattern, IsWellMadePatternKind};
 ghost use Rattle.cd_syntax.specs.WellMadePattern.{AreWellMadePatterns, AreWellMadePatternSigns};
-ghost use Rattle.cd_resolve.specs.Inner.Equation.{plain_equations};
+ghost use Rattle.cd_shared.specs.Equation.{plain_equations};
 ghost use Rattle.cd_resolve.specs.Inner.Finding.{innermost, met, declared_under};
 ghost use Rattle.cd_resolve.specs.Inner.Finding.{found_in, found_in_kind, found_in_trees};
 ghost use Rattle.cd_resolve.specs.Inner.Finding.{found_in_signs};
@@ -17,7 +17,6 @@ ghost use Rattle.cd_resolve.specs.Inner.Walk.{walked, walked_kind, walked_trees,
 
 use crate::base::Base;
 use crate::declare::walk_where;
-use crate::equation::Equation;
 use crate::found::{Found, Id};
 use crate::leaves::{atom, characters, integers};
 use crate::lookup::meaning_of;
@@ -28,6 +27,7 @@ use crate::state::{Joint, State};
 use cd_graph::Formula;
 use cd_graph::built_in::{EMPTY, node_of};
 use cd_sets::node_id::NodeId;
+use cd_shared::Equation;
 use cd_syntax::name::Name;
 use cd_syntax::type_tree::{Signed, Tree, TreeKind, Trees};
 use std::alloc::AllocError;

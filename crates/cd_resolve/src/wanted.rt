@@ -79,6 +79,10 @@ pub fn resolve_types(
     graph.knows();
     let first = graph.len();
     let (equations, roots) = read_types(alloc, first, names, wanted)?;
-    let formulas = solve(alloc, graph, first, equations)?;
-    Ok(TypesBatch { formulas, roots })
+    let solution = solve(alloc, graph, first, equations)?;
+    let roots = solution.classes.classes_of(alloc, roots.as_slice())?;
+    Ok(TypesBatch {
+        formulas: solution.formulas,
+        roots,
+    })
 }

@@ -9,7 +9,7 @@ use Rattle.cd_syntax.specs.WellMadePattern.{AreWellMadePatternRegulars}
 use Rattle.cd_syntax.specs.Name.{Name}
 use Rattle.cd_model.specs.Formula.{Field}
 use Rattle.cd_graph.specs.PlainFormula.{plain_named}
-use Rattle.cd_resolve.specs.Inner.Equation.{Equations, plain_equations}
+use Rattle.cd_shared.specs.Equation.{Equations, plain_equations}
 use Rattle.cd_resolve.specs.Inner.Walk.{chained, chained_all, walked_signs, walked_fields, walked_declared}
 use Rattle.cd_resolve.specs.Inner.Finding.{innermost, found_in_signs, found_in_fields, found_in_declared}
 use Rattle.cd_resolve.specs.Inner.NamesDeclared.{names_in}

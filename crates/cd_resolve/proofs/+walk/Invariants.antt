@@ -5,7 +5,7 @@ use Rattle.cd_syntax.specs.PlainTree.{plain_fields, plain_declaration, plain_dec
 use Rattle.cd_syntax.specs.PlainTree.{plain_regular_kind, plain_regulars, plain_rest}
 use Rattle.cd_regex.specs.PlainRegular.{plain as plain_reg}
 use Rattle.cd_graph.specs.PlainFormula.{plain_named}
-use Rattle.cd_resolve.specs.Inner.Equation.{plain_equations}
+use Rattle.cd_shared.specs.Equation.{plain_equations}
 use Rattle.cd_resolve.specs.Inner.Walk.{walked_trees, walked_signs, walked_fields, walked_regulars, walked_declared}
 use Rattle.cd_resolve.specs.Inner.Finding.{innermost, found_in_trees, found_in_signs, found_in_fields}
 use Rattle.cd_resolve.specs.Inner.Finding.{found_in_declared, found_in_regulars}

@@ -13,7 +13,7 @@ use Rattle.cd_model.specs.Formula.{Formula, Field, Pair, Xml, Record}
 use Rattle.cd_regex.specs.Regular.{Regular, Regulars, Nothing, Item, Seq, Alt, NoRegular, ARegular}
 use Rattle.cd_regex.specs.Regular.{AsksBelow}
 use Rattle.cd_regex.specs.Automaton.{sequence_formulas}
-use Rattle.cd_resolve.specs.Inner.Equation.{Equation, Equations, Is, Same, And, Or}
+use Rattle.cd_shared.specs.Equation.{Equation, Equations, Is, Same, And, Or}
 use Rattle.cd_resolve.specs.Inner.ScopeLevels.{ScopeLevels, node_under}
 use Rattle.cd_resolve.specs.Inner.Leaves.{integers, characters, atom, Joint, Pairs, Arrows, joined}
 use Rattle.cd_resolve.specs.Inner.Leaves.{sorted}

@@ -6,7 +6,7 @@ use Rattle.std.specs.Option.{option_flatten}
 use Rattle.cd_sets.specs.declared.node_id.NodeId.{NodeId}
 use Rattle.cd_model.specs.BuiltIns.{node}
 use Rattle.cd_model.specs.Formula.{Graph, Formula, Nothing, formula_at}
-use Rattle.cd_resolve.specs.Inner.Equation.{Equation, Equations, Is}
+use Rattle.cd_shared.specs.Equation.{Equation, Equations, Is}
 use Rattle.cd_resolve.specs.Inner.Links.{links}
 use Rattle.cd_resolve.specs.Inner.Order.{IsOrder}
 use Rattle.cd_resolve.specs.Inner.Solves.{made}

@@ -2,7 +2,7 @@
 use Rattle.std.specs.Prelude.{ℕ, ◌-◌, List, [], ◌∷◌, ◌++◌, map, Option, Some, nat_le}
 use Rattle.std.specs.Prelude.{if◌then◌else◌}
 use Rattle.cd_sets.specs.declared.node_id.NodeId.{NodeId}
-use Rattle.cd_resolve.specs.Inner.Equation.{Equation, Equations, Same, And, Or}
+use Rattle.cd_shared.specs.Equation.{Equation, Equations, Same, And, Or}
 
 -- The first equation is that of the node of this number
 module _ (first : ℕ) where

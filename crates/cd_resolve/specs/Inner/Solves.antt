@@ -1,13 +1,14 @@
 -- What it is for a graph to solve equations.
-use Rattle.std.specs.Prelude.{◌≡◌, ℕ, ◌+◌, ◌<◌, ◌≤◌, ◌⊎◌, Bool, true, false, map, length}
-use Rattle.std.specs.Prelude.{Some}
+use Rattle.std.specs.Prelude.{◌≡◌, ℕ, ◌+◌, ◌<◌, ◌≤◌, ◌⊎◌, ◌++◌, Bool, true, false, List, map}
+use Rattle.std.specs.Prelude.{length, Some}
 use Rattle.std.specs.List.{slice_get}
 use Rattle.cd_sets.specs.declared.node_id.NodeId.{NodeId}
 use Rattle.cd_model.specs.AllOf.{AllOf}
 use Rattle.cd_model.specs.BuiltIns.{node}
 use Rattle.cd_model.specs.Formula as formula
 use Rattle.cd_model.specs.Formula.{Graph, Formula, IsFormula, formula_at, formulas_of}
-use Rattle.cd_resolve.specs.Inner.Equation.{Equation, Equations, Is, Same, And, Or}
+use Rattle.cd_shared.specs.Shared.{IsImage}
+use Rattle.cd_shared.specs.Equation.{Equation, Equations, Is, Same, And, Or}
 
 -- a formula, or what is not in it
 abbrev pub signed : Bool → Formula → Formula
@@ -47,3 +48,16 @@ pub record AreEquations (nodes first : ℕ) (equations : Equations) : Type 0 whe
 -- a graph whose first nodes have the formulas of this one
 abbrev pub AgreesWith : (old graph : Graph) → Type 0
 AgreesWith old graph = (id : NodeId) → id.0 < length old → formula_at old id ≡ formula_at graph id
+
+-- Formulas in which equal nodes are named by one number, and formulas that solve the equations: put
+-- after a graph of so many nodes that agrees with the old one, the nodes of both hold the same
+pub record IsSolution (old : Graph) (first : ℕ) (equations : Equations) (class : NodeId → NodeId)
+    (batch : List Formula) : Type 0 where
+  pub formulas : List Formula
+  pub number : length formulas ≡ length equations
+  pub below : (id : NodeId) → id.0 < first + length equations
+      → (class id).0 < first + length equations
+  pub solves : (graph : Graph) → length graph ≡ first → AgreesWith old graph
+      → Solves (graph ++ formulas) first equations
+  pub image : (graph : Graph) → length graph ≡ first → AgreesWith old graph
+      → IsImage class (graph ++ formulas) (graph ++ batch)

@@ -13,7 +13,7 @@ use Rattle.cd_model.specs.BuiltIns.{EMPTY, ANY, NIL, node, node_named}
 use Rattle.cd_model.specs.Formula.{Formula, Field, Pair, Xml, Record}
 use Rattle.cd_regex.specs.Regular.{Regular, Nothing, Item, Seq, Alt, NoRegular, regulars_of}
 use Rattle.cd_regex.specs.Automaton.{sequence_formulas}
-use Rattle.cd_resolve.specs.Inner.Equation.{Equation, Equations, Is, Same, And, Or}
+use Rattle.cd_shared.specs.Equation.{Equation, Equations, Is, Same, And, Or}
 use Rattle.cd_resolve.specs.Inner.ScopeLevels.{ScopeLevel, ScopeLevels, node_under, number_in}
 use Rattle.cd_resolve.specs.Inner.Leaves.{integers, characters, atom, Joint, Pairs, Arrows, joined}
 use Rattle.cd_resolve.specs.Inner.Leaves.{sorted}

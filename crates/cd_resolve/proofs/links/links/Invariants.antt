@@ -1,5 +1,5 @@
 use Rattle.std.proofs.Common.{◌≡◌, ◌++◌, map, drop}
-use Rattle.cd_resolve.specs.Inner.Equation.{plain_equations}
+use Rattle.cd_shared.specs.Equation.{plain_equations}
 use Rattle.cd_resolve.specs.Inner.Links.{links}
 use Rattle.cd_resolve.proofs.links.links.Given as goal
 

@@ -1,7 +1,7 @@
 use Rattle.std.proofs.Common.{◌≡◌, [], map, drop}
 use Rattle.cd_syntax.specs.TypeTree.{trees_of}
 use Rattle.cd_resolve.specs.Wanted.{wanted_tree}
-use Rattle.cd_resolve.specs.Inner.Equation.{plain_equations}
+use Rattle.cd_shared.specs.Equation.{plain_equations}
 use Rattle.cd_resolve.specs.Inner.PlainBase.{names_outside}
 use Rattle.cd_resolve.specs.Inner.Walk.{walked_trees}
 use Rattle.cd_resolve.proofs.read.walk_types.Given as goal

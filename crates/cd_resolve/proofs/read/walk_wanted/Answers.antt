@@ -4,7 +4,7 @@ use Rattle.cd_syntax.specs.PlainTree.{plain, plain_fields}
 use Rattle.cd_syntax.specs.WellMadePattern.{IsWellMadePattern}
 use Rattle.cd_graph.specs.PlainFormula.{plain_named}
 use Rattle.cd_resolve.specs.Wanted.{tree_wanted}
-use Rattle.cd_resolve.specs.Inner.Equation.{plain_equations}
+use Rattle.cd_shared.specs.Equation.{plain_equations}
 use Rattle.cd_resolve.specs.Inner.PlainBase.{names_outside}
 use Rattle.cd_resolve.specs.Inner.PlainState.{HaveLabels}
 use Rattle.cd_resolve.specs.Inner.Walk.{walked}

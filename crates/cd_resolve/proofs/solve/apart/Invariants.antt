@@ -1,7 +1,7 @@
 use Rattle.std.proofs.Common.{◌≡◌, ◌++◌, map, length}
 use Rattle.std.specs.Vec.Iter.{into_iter_items, into_iter_len}
 use Rattle.cd_graph.specs.PlainFormula.{plain}
-use Rattle.cd_resolve.specs.Inner.Equation.{plain_equations}
+use Rattle.cd_shared.specs.Equation.{plain_equations}
 use Rattle.cd_resolve.specs.Inner.Filling.{at_once, left}
 use Rattle.cd_resolve.proofs.solve.apart.Given as goal
 

@@ -3,7 +3,7 @@ use Rattle.std.proofs.lemmas.List.{length-map}
 use Rattle.std.specs.Option.{option_map}
 use Rattle.cd_graph.specs.Nodes.{nodes}
 use Rattle.cd_graph.specs.PlainFormula.{plain}
-use Rattle.cd_resolve.specs.Inner.Equation.{plain_equation, plain_equations}
+use Rattle.cd_shared.specs.Equation.{plain_equation, plain_equations}
 use Rattle.cd_resolve.specs.Inner.Solves.{IsEquation}
 use Rattle.cd_resolve.proofs.EachOne.{each_got}
 use Rattle.cd_resolve.proofs.Filling.{made_read, one_step}

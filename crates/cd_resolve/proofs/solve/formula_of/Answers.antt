@@ -4,8 +4,8 @@ use Rattle.cd_model.specs.Formula as formula
 use Rattle.cd_model.specs.Formula.{Formula, formulas_of}
 use Rattle.cd_graph.specs.Nodes.{nodes}
 use Rattle.cd_graph.specs.PlainFormula.{plain}
-use Rattle.cd_resolve.specs.declared.equation.Equation.{Equation}
-use Rattle.cd_resolve.specs.Inner.Equation.{plain_equation}
+use Rattle.cd_shared.specs.declared.equation.Equation.{Equation}
+use Rattle.cd_shared.specs.Equation.{plain_equation}
 use Rattle.cd_resolve.specs.Inner.Solves.{signed, made}
 use Rattle.cd_resolve.specs.Inner.Filling.{so_far}
 use Rattle.cd_resolve.proofs.solve.formula_of.Goals as goal

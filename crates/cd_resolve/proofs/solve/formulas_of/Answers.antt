@@ -5,8 +5,8 @@ use Rattle.cd_model.specs.AllOf.{AllOf}
 use Rattle.cd_model.proofs.Ones.{each_weaker}
 use Rattle.cd_graph.specs.Nodes.{nodes}
 use Rattle.cd_graph.specs.PlainFormula.{plain}
-use Rattle.cd_resolve.specs.declared.equation.Equation.{Equation as CodeEquation}
-use Rattle.cd_resolve.specs.Inner.Equation.{plain_equation, plain_equations}
+use Rattle.cd_shared.specs.declared.equation.Equation.{Equation as CodeEquation}
+use Rattle.cd_shared.specs.Equation.{plain_equation, plain_equations}
 use Rattle.cd_resolve.specs.Inner.Solves.{AreEquations}
 use Rattle.cd_resolve.specs.Inner.Links.{links}
 use Rattle.cd_resolve.specs.Inner.Order.{AreRows, Ends, IsOrder}

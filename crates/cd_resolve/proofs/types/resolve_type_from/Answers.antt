@@ -1,19 +1,23 @@
-use Rattle.std.proofs.Common.{List, ◌++◌, [], ◌∷◌, length, refl, sym, subst, ap, arith}
+use Rattle.std.proofs.Common.{◌≡◌, List, ◌++◌, [], ◌∷◌, length, refl, sym, subst, ap, ◌∙◌, arith}
 use Rattle.std.proofs.lemmas.List.{length-map}
 use Rattle.std.specs.Option.{option_map}
+use Rattle.cd_sets.specs.declared.node_id.NodeId.{NodeId}
 use Rattle.cd_syntax.specs.PlainTree.{plain}
 use Rattle.cd_syntax.specs.TypeTree.{Tree}
 use Rattle.cd_graph.specs.PlainFormula.{plain_list}
 use Rattle.cd_graph.specs.Nodes.{nodes}
 use Rattle.cd_model.specs.StandsFor.{StandsFor}
+use Rattle.cd_model.specs.Written.{Written}
 use Rattle.cd_resolve.specs.Named.{plain_names, declared_by}
-use Rattle.cd_resolve.specs.Inner.Equation.{plain_equation}
+use Rattle.cd_shared.specs.Equation.{plain_equation, plain_equations}
+use Rattle.cd_shared.specs.Shared.{class_in}
 use Rattle.cd_resolve.specs.Inner.Links.{links}
 use Rattle.cd_resolve.specs.Inner.Order.{Ends}
 use Rattle.cd_resolve.specs.Inner.Solves.{AreEquations, Solves, IsNode}
 use Rattle.cd_resolve.specs.Inner.Walk.{Read, walked}
 use Rattle.cd_resolve.proofs.NodesNamed.{list_of}
-use Rattle.cd_resolve.proofs.Resolving.{types_bounds, types_end, types_stand, begins_agree}
+use Rattle.cd_resolve.proofs.Resolving.{types_bounds, types_end, types_stand, begins_agree, begins_longer}
+use Rattle.cd_resolve.proofs.SharedStanding.{class_stands}
 use Rattle.cd_resolve.proofs.TypesArePatterns.{type_is_pattern}
 use Rattle.cd_resolve.proofs.types.resolve_type_from.Goals as goal
 use Rattle.cd_resolve.proofs.types.resolve_type_from.Goals.{In_ok-equations}
@@ -60,22 +64,30 @@ solve-requires-clause-ends c = λ number less.
 
 pub returns-clause-stands : goal.returns-clause-stands
 returns-clause-stands c = λ more long.
-    let batch = plain_list c.in_ok-formulas.formulas in
-    let all = nodes c.args.graph.now ++ more ++ batch in
-    subst (λ (read : Read). StandsFor all read.0
-    (record { scope = declared_by c.args.names.now ∷ []; tree = plain c.args.tree.now }))
-    (sym c.in_ok-equations.ensures.equations)
-    (types_stand (plain_names c.args.names.now) c.requires.names_sound (plain c.args.tree.now ∷ [])
-    (c.in_ok-equations.ensures.sound, tt)
-    (nodes c.args.graph.now) c.knows.ensures.sound c.knows.ensures.built_in c.requires.named
-    c.args.first c.requires.first more batch long
-    (omega (
-      arith,
-      c.in_ok-formulas.ensures.number,
-      length-map c.in_ok-equations.equations.items (option_map plain_equation),
-      ap (λ (read : Read). length read.1) c.in_ok-equations.ensures.equations,
-    ))
+    let old = nodes c.args.graph.now in
+    let solution = c.in_ok-solution.ensures.solves in
+    let batch = plain_list c.in_ok-solution.solution.formulas in
+    let equations = plain_equations c.in_ok-equations.equations.items in
+    let many : length equations ≡ length c.in_ok-equations.equations.items =
+    length-map c.in_ok-equations.equations.items (option_map plain_equation) in
+    let agrees = begins_agree old (old ++ more) more refl in
+    let all = old ++ more ++ solution.formulas in
+    let type : Written = record {
+      scope = declared_by c.args.names.now ∷ [];
+      tree = plain c.args.tree.now;
+    } in
+    subst (λ (root : NodeId). StandsFor (old ++ more ++ batch) root type)
+    (sym c.class-root.ensures)
+    (class_stands old c.args.first equations (class_in c.in_ok-solution.solution.classes) batch
+    solution (c.in_ok-solution.ensures.number ∙ sym many) (old ++ more) long agrees
+    (begins_longer old more c.knows.ensures.built_in) c.in_ok-equations.root type
+    (subst (λ (read : Read). StandsFor all read.0 type) (sym c.in_ok-equations.ensures.equations)
+    (types_stand (plain_names c.args.names.now) c.requires.names_sound
+    (plain c.args.tree.now ∷ []) (c.in_ok-equations.ensures.sound, tt)
+    old c.knows.ensures.sound c.knows.ensures.built_in c.requires.named
+    c.args.first c.requires.first more solution.formulas long
+    (solution.number
+    ∙ ap (λ (read : Read). length read.1) c.in_ok-equations.ensures.equations)
     (subst (λ (read : Read). Solves all c.args.first read.1) c.in_ok-equations.ensures.equations
-    (c.in_ok-formulas.ensures.solves (nodes c.args.graph.now ++ more) long
-    (begins_agree (nodes c.args.graph.now) (nodes c.args.graph.now ++ more) more refl)))
-    ((bounds (goal.at.returns-clause-stands c).In_ok-equations).1, tt)).0
+    (solution.solves (old ++ more) long agrees))
+    ((bounds (goal.at.returns-clause-stands c).In_ok-equations).1, tt)).0))

@@ -1,6 +1,6 @@
 use Rattle.std.proofs.Common.{◌≡◌, ◌++◌, map, Some}
 use Rattle.cd_graph.specs.PlainFormula.{plain}
-use Rattle.cd_resolve.specs.Inner.Equation.{Is, plain_equations}
+use Rattle.cd_shared.specs.Equation.{Is, plain_equations}
 use Rattle.cd_resolve.proofs.state.State.add_all.Given as goal
 
 -- those that are there, and then those that are left, are all

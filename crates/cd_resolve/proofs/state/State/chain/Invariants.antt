@@ -1,5 +1,5 @@
 use Rattle.std.proofs.Common.{◌≡◌, ◌<◌, length, drop}
-use Rattle.cd_resolve.specs.Inner.Equation.{plain_equations}
+use Rattle.cd_shared.specs.Equation.{plain_equations}
 use Rattle.cd_resolve.specs.Inner.Walk.{chained}
 use Rattle.cd_resolve.specs.Inner.PlainState.{plain_joint}
 use Rattle.cd_resolve.proofs.state.State.chain.Given as goal

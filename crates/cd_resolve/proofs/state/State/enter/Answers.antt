@@ -3,7 +3,7 @@ use Rattle.std.specs.Option.{option_map}
 use Rattle.std.proofs.lemmas.List.{map_push}
 use Rattle.cd_syntax.specs.PlainTree.{plain_declarations}
 use Rattle.cd_resolve.specs.Inner.Walk.{unread}
-use Rattle.cd_resolve.specs.Inner.Equation.{plain_equation, plain_equations}
+use Rattle.cd_shared.specs.Equation.{plain_equation, plain_equations}
 use Rattle.cd_resolve.proofs.Entering.{enters_more, enters_all}
 use Rattle.cd_resolve.proofs.state.State.enter.Goals as goal
 

@@ -3,7 +3,7 @@ use cd_sets::node_id::NodeId;
 
 /// What a node holds, by what other nodes hold.
 #[derive(Drop)]
-pub(crate) enum Equation {
+pub enum Equation {
     /// This formula.
     Is(Formula),
     /// What this node holds.

@@ -4,8 +4,8 @@ use Rattle.std.specs.Option.{option_map}
 use Rattle.cd_sets.specs.declared.node_id.NodeId.{NodeId}
 use Rattle.cd_model.specs.Formula.{Formula}
 use Rattle.cd_graph.specs.PlainFormula.{plain}
-use Rattle.cd_resolve.specs.declared.equation.Equation.{Equation as CodeEquation}
-use Rattle.cd_resolve.specs.declared.equation.Equation.TheVariants as code
+use Rattle.cd_shared.specs.declared.equation.Equation.{Equation as CodeEquation}
+use Rattle.cd_shared.specs.declared.equation.Equation.TheVariants as code
 
 pub data Equation : Type 0 where
   -- this formula

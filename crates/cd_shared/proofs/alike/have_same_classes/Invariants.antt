@@ -1,0 +1,9 @@
+use Rattle.std.proofs.Common.{◌≡◌, map, drop}
+use Rattle.cd_shared.specs.Shared.{class_in}
+use Rattle.cd_shared.proofs.alike.have_same_classes.Given as goal
+
+-- the lists have the same classes where what is left of them has
+abbrev pub invariant-loop-index : goal.invariant-loop-index
+invariant-loop-index l = l.joined.one ≡ l.joined.other →
+    map (class_in l.classes) (drop l.index l.some) ≡ map (class_in l.classes) (drop l.index l.others)
+    → map (class_in l.classes) l.some ≡ map (class_in l.classes) l.others

@@ -1,0 +1,7 @@
+use Rattle.std.proofs.Common.{◌≡◌, ℕ, ◌<◌}
+use Rattle.std.specs.List.{slice_get}
+use Rattle.cd_shared.proofs.sets.have_same_characters.Given as goal
+
+-- what was gone over is the same
+abbrev pub invariant-loop-index : goal.invariant-loop-index
+invariant-loop-index l = (k : ℕ) → k < l.index → slice_get l.one k ≡ slice_get l.other k

@@ -1,0 +1,2 @@
+-- What serves proofs and private functions. No public clause speaks of it.
+pub mod Found
