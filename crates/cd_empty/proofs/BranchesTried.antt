@@ -47,15 +47,22 @@ module _ (graph : Graph) (decider : Decider) (frame : Frame) (branch : Task) whe
     },
   )
 
-  -- nothing is known of a question of the branch, which is put back
+  -- nothing is known of a question, and the branch is put back
+  pub put_back : (branches : List Task) (question : Question) → branches ≡ branch ∷ frame.branches
+      → IsFit graph (table decider) (with_branch branch frame) → IsUnknown decider question → AsksNodes (length graph) question
+      → IsDoing graph decider (with_branch branch frame) (record frame { branches = branches }) (Wants question)
+  put_back branches question put fit unknown asks =
+      subst (λ (branches : List Task). IsDoing graph decider (with_branch branch frame) (record frame { branches = branches }) (Wants question))
+      (sym put) ((refl, fit), unknown, asks)
+
+  -- so where it is one of the branch
   pub wanted : (branches : List Task) (question : Question) → branches ≡ branch ∷ frame.branches
       → IsFit graph (table decider) (with_branch branch frame)
       → AllOf (AsksNodes (length graph)) (questions_of (plain_task branch))
       → AnyOf (λ other. other ≡ question) (questions_of (plain_task branch)) → IsUnknown decider question
       → IsDoing graph decider (with_branch branch frame) (record frame { branches = branches }) (Wants question)
-  wanted branches question put fit asks one unknown =
-      subst (λ (branches : List Task). IsDoing graph decider (with_branch branch frame) (record frame { branches = branches }) (Wants question))
-      (sym put) ((refl, fit), unknown, of_each (AsksNodes (length graph)) (questions_of (plain_task branch)) question asks one)
+  wanted branches question put fit asks one unknown = put_back branches question put fit unknown
+      (of_each (AsksNodes (length graph)) (questions_of (plain_task branch)) question asks one)
 
   -- the branch becomes its cases
   pub split : (cases branches : List Task) → branches ≡ cases ++ frame.branches

@@ -20,3 +20,4 @@ pub mod OpenedQuestions
 pub mod StepsTaken
 pub mod ProgressOfRuns
 pub mod ChosenPlaces
+pub mod CasesLookedAt

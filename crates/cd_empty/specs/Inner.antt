@@ -5,3 +5,4 @@ pub mod Doing
 pub mod Running
 pub mod Looking
 pub mod Working
+pub mod Splitting

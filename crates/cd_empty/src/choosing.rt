@@ -1,16 +1,19 @@
-//! Which of the members that hold what was made for a branch is given to its sides.
-ghost use Rattle.std.specs.Prelude.{◌≡◌, ◌⊎◌, length, map, IfOk};
+//! Which of the members that hold what was made for a branch is given to its sides, and with which
+//! others.
+ghost use Rattle.std.specs.Prelude.{◌≡◌, ◌<◌, ◌⊎◌, length, map, IfOk};
 ghost use Rattle.cd_graph.specs.Nodes.{nodes};
 ghost use Rattle.cd_model.specs.AllOf.{AllOf, AnyOf};
 ghost use Rattle.cd_elements.specs.Table.{element_at};
 ghost use Rattle.cd_members.specs.Held.{IsHeldAt};
-ghost use Rattle.cd_rules.specs.Tasks.{IsTaskOfNodes, questions_of};
+ghost use Rattle.cd_rules.specs.Tasks.{IsTaskOfNodes, count_left, questions_of};
 ghost use Rattle.cd_tasks.specs.PlainTask.{plain_task};
 ghost use Rattle.cd_empty.specs.Inner.Looking.{HaveElements};
 ghost use Rattle.cd_empty.specs.Inner.Running.{KeepsKnown};
+ghost use Rattle.cd_empty.specs.Inner.Splitting.{AreCasesOf, IsUnknownOf};
 ghost use Rattle.cd_empty.specs.Kept.{IsSound, table};
 
 use crate::decider::Decider;
+use crate::parts::Parts;
 use cd_elements::ElementId;
 use cd_graph::Graph;
 use cd_members::held_places;
@@ -19,6 +22,15 @@ use cd_sets::question::Question;
 use cd_tasks::Task;
 use cd_verdicts::look::Look;
 use std::alloc::AllocError;
+
+/// What is done for a branch of which a member holds what was made.
+#[derive(Drop)]
+pub(crate) enum Cases<'g> {
+    /// It becomes these cases.
+    Are(Vec<Task<'g>>),
+    /// Nothing, as long as it isn't known whether this question has an element.
+    Wants(Question),
+}
 
 impl Decider {
     /// Which member is given where the one at this place holds what was made: that one, or one of
@@ -46,6 +58,57 @@ impl Decider {
         }
         let places = self.held(graph, branch, ids)?;
         self.most_closed(sides.as_slice(), branch, places.as_slice(), place)
+    }
+
+    /// The cases of a branch, where the member at this place is given to each side. Where two sides
+    /// have elements all that is left doubles, so all members that have the same parts on all sides
+    /// but one are given together. Where one side may have one they are too if many such were given
+    /// alone before, since mostly that member is enough.
+    pub(crate) fn cases_of<'g>(
+        &self,
+        branch: &Task<'g>,
+        place: usize,
+    ) -> Result<Cases<'g>, AllocError>
+        requires { place < count_left (plain_task branch.now) }
+        ensures { IfOk result (AreCasesOf self.now (plain_task branch.now)) }
+    {
+        let alloc = self.allocator();
+        let cases = branch.cases(alloc, place)?;
+        if !branch.has_group(place) {
+            return Ok(Cases::Are(cases));
+        }
+        let open = self.count_open_cases(cases.as_slice())?;
+        if open == 0 || (open == 1 && !branch.has_begun_group(place)) {
+            return Ok(Cases::Are(cases));
+        }
+        match self.unknown_of(cases.as_slice())? {
+            Some(question) if open > 1 => Ok(Cases::Wants(question)),
+            _ => Ok(Cases::Are(branch.cases_together(alloc, place)?)),
+        }
+    }
+
+    // How many of some cases have no question that is known to have no element.
+    fn count_open_cases(&self, cases: &[Task<'_>]) -> Result<usize, AllocError> {
+        let mut open = 0usize;
+        for case in cases {
+            match self.parts_of(case)? {
+                Parts::Missing => {}
+                Parts::Unknown(_) | Parts::Are(_) => open = open.saturating_add(1),
+            }
+        }
+        Ok(open)
+    }
+
+    // The first question of some cases of which nothing is known.
+    fn unknown_of(&self, cases: &[Task<'_>]) -> Result<Option<Question>, AllocError>
+        ensures { IfOk result (IsUnknownOf self.now (map plain_task cases.now)) }
+    {
+        for case in cases {
+            if let Parts::Unknown(question) = self.parts_of(case)? {
+                return Ok(Some(question));
+            }
+        }
+        Ok(None)
     }
 
     // The places of some members that hold what was made.

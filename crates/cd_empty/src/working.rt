@@ -1,5 +1,5 @@
 //! What is done for the question of a frame, one thing at a time.
-ghost use Rattle.std.specs.Prelude.{◌≡◌, List, [], ◌∷◌, length, map, IfOk};
+ghost use Rattle.std.specs.Prelude.{◌≡◌, ◌<◌, List, [], ◌∷◌, length, map, IfOk};
 ghost use Rattle.cd_graph.specs.Nodes.{nodes};
 ghost use Rattle.cd_model.specs.AllOf.{AllOf};
 ghost use Rattle.cd_elements.specs.Table.{Names, element_at, pairs_of};
@@ -9,7 +9,7 @@ ghost use Rattle.cd_model.specs.Thing.{Function};
 ghost use Rattle.cd_normal.specs.ConjunctsGoOn.{IsOfNodes};
 ghost use Rattle.cd_normal.specs.Partials.{partials};
 ghost use Rattle.cd_normal.specs.PlainClause.{plain_clause};
-ghost use Rattle.cd_rules.specs.Tasks.{IsTaskOfNodes, questions_of};
+ghost use Rattle.cd_rules.specs.Tasks.{IsTaskOfNodes, count_left, questions_of};
 ghost use Rattle.cd_tasks.specs.PlainTask.{plain_task};
 ghost use Rattle.cd_empty.specs.Inner.Doing.{IsDoing};
 ghost use Rattle.cd_empty.specs.Inner.Fit.{IsFit, IsPairNamed};
@@ -20,6 +20,7 @@ ghost use Rattle.cd_empty.specs.Inner.Working.{IsReady, AddsElements, AddsPair, 
 ghost use Rattle.cd_empty.specs.Inner.Working.{with_branch};
 ghost use Rattle.cd_empty.specs.Kept.{IsSound, table};
 
+use crate::choosing::Cases;
 use crate::decider::Decider;
 use crate::doing::Doing;
 use crate::frame::Frame;
@@ -109,13 +110,38 @@ impl Decider {
         ensures keeps { KeepsKnown self.old self.new }
     {
         match self.attempt(graph, &branch, ids)? {
-            Attempt::Held(place) => {
-                let cases = branch.cases(self.allocator(), place)?;
+            Attempt::Held(place) => self.split(graph, frame, branch, place),
+            Attempt::Made(id) => Ok(Doing::Found(id)),
+            Attempt::Maps(from, to) => self.add_pair(frame, from, to),
+        }
+    }
+
+    // A branch becomes its cases, where the member at this place of those left is given to each side.
+    fn split<'g>(
+        &self,
+        graph: &Graph,
+        frame: &mut Frame<'g>,
+        branch: Task<'g>,
+        place: usize,
+    ) -> Result<Doing, AllocError>
+        requires ready { IsReady (nodes graph.now) self.now (with_branch branch frame.old) }
+        requires place { place < count_left (plain_task branch) }
+        ensures doing { IfOk result
+            (IsDoing (nodes graph.now) self.now (with_branch branch.entry frame.old) frame.new) }
+        ensures question { frame.new.question ≡ frame.old.question }
+        ensures place { frame.new.place ≡ frame.old.place }
+    {
+        // The contract of this call says that the graph is sound, and how it begins.
+        graph.knows();
+        match self.cases_of(&branch, place)? {
+            Cases::Are(cases) => {
                 frame.branches.push_all(cases)?;
                 Ok(Doing::Worked)
             }
-            Attempt::Made(id) => Ok(Doing::Found(id)),
-            Attempt::Maps(from, to) => self.add_pair(frame, from, to),
+            Cases::Wants(question) => {
+                frame.branches.push(branch)?;
+                Ok(Doing::Wants(question))
+            }
         }
     }
 

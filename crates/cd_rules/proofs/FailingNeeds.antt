@@ -6,12 +6,14 @@ use Rattle.cd_model.specs.AllOf.{AllOf, AnyOf}
 use Rattle.cd_rules.specs.Clauses.{Pair, Triple}
 use Rattle.cd_model.specs.BuiltIns.{ATOM, RECORD}
 use Rattle.cd_rules.specs.Fails.{Fails, seen, cases, ThreeFail, three_seen, three_cases}
+use Rattle.cd_rules.specs.Groups.{AtFirst, AtSecond, AtTag, AtAttributes, AtContent, part, xml_part}
 use Rattle.cd_rules.specs.Tasks.{HasSubsumed}
 use Rattle.cd_rules.specs.Family.{IsSubsumed, RefutesNeed, AreAmong}
 use Rattle.cd_rules.specs.Needs.{question, pair_way, xml_way, arrow_way, result_questions, splits, splits_in_three}
 use Rattle.cd_rules.specs.Needs.{to_one, to_other, to_first, to_middle, to_last}
 use Rattle.cd_rules.proofs.Among.{of_each, each_of_its, among_itself, among_map}
 use Rattle.cd_rules.proofs.Asking.{each_of_map}
+use Rattle.cd_rules.proofs.GroupsFail.{ArePartsAmong, AreSidesAmong, AreThreeAmong}
 use Rattle.cd_rules.proofs.Subsumption.{asks_more, subsumes_more}
 use Rattle.cd_rules.proofs.Sides.{splits_back, splits_in_three_back}
 
@@ -88,54 +90,70 @@ module _ (family : List Question) where
   asks_further pos neg more_pos more_neg wanted refused =
       subsumes_more family (question more_pos more_neg) (question pos neg) (asks_more pos neg more_pos more_neg wanted refused)
 
-  pair_on : (wanted : List Pair) → ComesOn (λ sides. HasSubsumed family (pair_way wanted sides))
-  pair_on wanted sides longer one other (inl first) = inl (asks_further (map (λ parts. parts.0) wanted) (map (λ parts. parts.0) sides.0)
-      (map (λ parts. parts.0) wanted) (map (λ parts. parts.0) longer.0) (among_itself (map (λ parts. parts.0) wanted))
-      (among_map (λ (parts : Pair). parts.0) sides.0 longer.0 one) first)
-  pair_on wanted sides longer one other (inr (inl second)) = inr (inl (asks_further (map (λ parts. parts.1) wanted)
-      (map (λ parts. parts.1) sides.1) (map (λ parts. parts.1) wanted) (map (λ parts. parts.1) longer.1)
-      (among_itself (map (λ parts. parts.1) wanted)) (among_map (λ (parts : Pair). parts.1) sides.1 longer.1 other) second))
-  pair_on wanted sides longer one other (inr (inr none)) = elim none [ ]
+  pub pair_on : (wanted : List Pair) (sides more : Sides Pair) → AreSidesAmong sides more → HasSubsumed family (pair_way wanted sides)
+      → HasSubsumed family (pair_way wanted more)
+  pair_on wanted sides more less (inl first) = inl (asks_further (map (λ parts. parts.0) wanted) (map (λ parts. parts.0) sides.0)
+      (map (λ parts. parts.0) wanted) (map (λ parts. parts.0) more.0) (among_itself (map (λ parts. parts.0) wanted)) less.0 first)
+  pair_on wanted sides more less (inr (inl second)) = inr (inl (asks_further (map (λ parts. parts.1) wanted)
+      (map (λ parts. parts.1) sides.1) (map (λ parts. parts.1) wanted) (map (λ parts. parts.1) more.1)
+      (among_itself (map (λ parts. parts.1) wanted)) less.1 second))
+  pair_on wanted sides more less (inr (inr none)) = elim none [ ]
 
   -- the question of a result asks more where more arrows speak of it
-  results_on : (refused : Pair) (some all : List Pair) → AreAmong some all → HasSubsumed family (result_questions refused some)
-      → HasSubsumed family (result_questions refused all)
+  results_on : (refused : Pair) (some all : List Pair) → ArePartsAmong (part AtSecond) some all
+      → HasSubsumed family (result_questions refused some) → HasSubsumed family (result_questions refused all)
   results_on refused [] all among is = elim is [ ]
   results_on refused (x ∷ some) [] among is = elim among.0 [ ]
   results_on refused (x ∷ some) (y ∷ all) among (inl is) = inl (asks_further (map (λ parts. parts.1) (x ∷ some)) (refused.1 ∷ [])
-      (map (λ parts. parts.1) (y ∷ all)) (refused.1 ∷ []) (among_map (λ (parts : Pair). parts.1) (x ∷ some) (y ∷ all) among)
-      (among_itself (refused.1 ∷ [])) is)
+      (map (λ parts. parts.1) (y ∷ all)) (refused.1 ∷ []) among (among_itself (refused.1 ∷ [])) is)
   results_on refused (x ∷ some) (y ∷ all) among (inr none) = elim none [ ]
 
-  arrow_on : (refused : Pair) → ComesOn (λ sides. HasSubsumed family (arrow_way refused sides))
-  arrow_on refused sides longer one other (inl argument) = inl (asks_further (refused.0 ∷ []) (map (λ parts. parts.0) sides.0)
-      (refused.0 ∷ []) (map (λ parts. parts.0) longer.0) (among_itself (refused.0 ∷ []))
-      (among_map (λ (parts : Pair). parts.0) sides.0 longer.0 one) argument)
-  arrow_on refused sides longer one other (inr result) = inr (results_on refused sides.1 longer.1 other result)
+  pub arrow_on : (refused : Pair) (sides more : Sides Pair) → AreSidesAmong sides more → HasSubsumed family (arrow_way refused sides)
+      → HasSubsumed family (arrow_way refused more)
+  arrow_on refused sides more less (inl argument) = inl (asks_further (refused.0 ∷ []) (map (λ parts. parts.0) sides.0)
+      (refused.0 ∷ []) (map (λ parts. parts.0) more.0) (among_itself (refused.0 ∷ [])) less.0 argument)
+  arrow_on refused sides more less (inr result) = inr (results_on refused sides.1 more.1 less.1 result)
+
+  -- what is so of more parts is so of more members
+  of_members : (Fact : Sides Pair → Type 0) → ((sides more : Sides Pair) → AreSidesAmong sides more → Fact sides → Fact more) → ComesOn Fact
+  of_members Fact on sides longer one other =
+      on sides longer (among_map (part AtFirst) sides.0 longer.0 one, among_map (part AtSecond) sides.1 longer.1 other)
 
   pub pair_need_fails : (wanted refused : List Pair) → Fails (λ sides. HasSubsumed family (pair_way wanted sides)) refused ([], [])
       → RefutesNeed family (map (pair_way wanted) (splits refused))
   pair_need_fails wanted refused tree = each_of_map (pair_way wanted) (HasSubsumed family) (splits refused)
-      (all_fail (λ sides. HasSubsumed family (pair_way wanted sides)) (pair_on wanted) refused tree)
+      (all_fail (λ sides. HasSubsumed family (pair_way wanted sides))
+      (of_members (λ sides. HasSubsumed family (pair_way wanted sides)) (pair_on wanted)) refused tree)
 
   pub arrow_need_fails : (refused : Pair) (wanted : List Pair) → Fails (λ sides. HasSubsumed family (arrow_way refused sides)) wanted ([], [])
       → RefutesNeed family (map (arrow_way refused) (splits wanted))
   arrow_need_fails refused wanted tree = each_of_map (arrow_way refused) (HasSubsumed family) (splits wanted)
-      (all_fail (λ sides. HasSubsumed family (arrow_way refused sides)) (arrow_on refused) wanted tree)
+      (all_fail (λ sides. HasSubsumed family (arrow_way refused sides))
+      (of_members (λ sides. HasSubsumed family (arrow_way refused sides)) (arrow_on refused)) wanted tree)
 
-  xml_on : (wanted : List Triple) → ComesOnInThree (λ sides. HasSubsumed family (xml_way wanted sides))
-  xml_on wanted sides longer one other last (inl first) = inl (asks_further (ATOM ∷ map (λ parts. parts.0) wanted)
-      (map (λ parts. parts.0) sides.0) (ATOM ∷ map (λ parts. parts.0) wanted) (map (λ parts. parts.0) longer.0)
-      (among_itself (ATOM ∷ map (λ parts. parts.0) wanted)) (among_map (λ (parts : Triple). parts.0) sides.0 longer.0 one) first)
-  xml_on wanted sides longer one other last (inr (inl second)) = inr (inl (asks_further (RECORD ∷ map (λ parts. parts.1) wanted)
-      (map (λ parts. parts.1) sides.1) (RECORD ∷ map (λ parts. parts.1) wanted) (map (λ parts. parts.1) longer.1)
-      (among_itself (RECORD ∷ map (λ parts. parts.1) wanted)) (among_map (λ (parts : Triple). parts.1) sides.1 longer.1 other) second))
-  xml_on wanted sides longer one other last (inr (inr (inl third))) = inr (inr (inl (asks_further (map (λ parts. parts.2) wanted)
-      (map (λ parts. parts.2) sides.2) (map (λ parts. parts.2) wanted) (map (λ parts. parts.2) longer.2)
-      (among_itself (map (λ parts. parts.2) wanted)) (among_map (λ (parts : Triple). parts.2) sides.2 longer.2 last) third)))
-  xml_on wanted sides longer one other last (inr (inr (inr none))) = elim none [ ]
+  pub xml_on : (wanted : List Triple) (sides more : ThreeSides Triple) → AreThreeAmong sides more → HasSubsumed family (xml_way wanted sides)
+      → HasSubsumed family (xml_way wanted more)
+  xml_on wanted sides more less (inl first) = inl (asks_further (ATOM ∷ map (λ parts. parts.0) wanted)
+      (map (λ parts. parts.0) sides.0) (ATOM ∷ map (λ parts. parts.0) wanted) (map (λ parts. parts.0) more.0)
+      (among_itself (ATOM ∷ map (λ parts. parts.0) wanted)) less.0 first)
+  xml_on wanted sides more less (inr (inl second)) = inr (inl (asks_further (RECORD ∷ map (λ parts. parts.1) wanted)
+      (map (λ parts. parts.1) sides.1) (RECORD ∷ map (λ parts. parts.1) wanted) (map (λ parts. parts.1) more.1)
+      (among_itself (RECORD ∷ map (λ parts. parts.1) wanted)) less.1 second))
+  xml_on wanted sides more less (inr (inr (inl third))) = inr (inr (inl (asks_further (map (λ parts. parts.2) wanted)
+      (map (λ parts. parts.2) sides.2) (map (λ parts. parts.2) wanted) (map (λ parts. parts.2) more.2)
+      (among_itself (map (λ parts. parts.2) wanted)) less.2 third)))
+  xml_on wanted sides more less (inr (inr (inr none))) = elim none [ ]
+
+  of_xml_members : (Fact : ThreeSides Triple → Type 0) → ((sides more : ThreeSides Triple) → AreThreeAmong sides more → Fact sides → Fact more)
+      → ComesOnInThree Fact
+  of_xml_members Fact on sides longer one other last = on sides longer (
+    among_map (xml_part AtTag) sides.0 longer.0 one,
+    among_map (xml_part AtAttributes) sides.1 longer.1 other,
+    among_map (xml_part AtContent) sides.2 longer.2 last,
+  )
 
   pub xml_need_fails : (wanted refused : List Triple) → ThreeFail (λ sides. HasSubsumed family (xml_way wanted sides)) refused ([], [], [])
       → RefutesNeed family (map (xml_way wanted) (splits_in_three refused))
   xml_need_fails wanted refused tree = each_of_map (xml_way wanted) (HasSubsumed family) (splits_in_three refused)
-      (all_three_fail (λ sides. HasSubsumed family (xml_way wanted sides)) (xml_on wanted) refused tree)
+      (all_three_fail (λ sides. HasSubsumed family (xml_way wanted sides))
+      (of_xml_members (λ sides. HasSubsumed family (xml_way wanted sides)) (xml_on wanted)) refused tree)

@@ -59,6 +59,7 @@ pub mod BasicsWithoutMembers
 pub mod KindDnfExact
 pub mod KindDnfBack
 pub mod ClausesOfKind
+pub mod GroupsFail
 pub mod FailingNeeds
 pub mod FailingRows
 pub mod CasesAreTasks

@@ -12,6 +12,7 @@ use Rattle.cd_model.specs.Membership.{Answers, Labelled, asked, answers, reader,
 use Rattle.cd_model.specs.Types.{no_closure}
 use Rattle.cd_model.proofs.Labels.{IsOneOf}
 use Rattle.cd_rules.specs.Clauses.{Pair, Triple, RecordType, Pairs, Xmls, Records, Arrows, IsInClause}
+use Rattle.cd_rules.specs.Groups.{other_sides, other_xml_sides, to_side, to_xml_side}
 use Rattle.cd_rules.specs.InRow.{thing_at, IsInRow, IsForRow, IsInCell, IsOfNoCell}
 use Rattle.cd_rules.specs.MadeForTasks.{IsRightPair, IsFunctionBut, arrows_of}
 use Rattle.cd_rules.specs.Needs.{question}
@@ -23,7 +24,8 @@ use Rattle.cd_rules.proofs.Asking.{asked_of_each, each_of_map}
 use Rattle.cd_rules.proofs.ArrowsForward.{ArgumentIsOutside, ResultIsInside}
 use Rattle.cd_rules.proofs.LabelsNamed.{IsUnnamed, unnamed_parts}
 use Rattle.cd_rules.proofs.MembersOfArrows.{IsInArrows, IsOutsideArrow, none_in_arrows, with_maps, with_fails}
-use Rattle.cd_model.proofs.Ones.{each_weaker, one_weaker, map_of_one, each_of_two, each_of_lists, each_of_all, each_for_all, one_leads}
+use Rattle.cd_model.proofs.Ones.{each_weaker, one_weaker, map_of_one, each_of_two, each_of_lists, each_for_all, one_leads}
+use Rattle.cd_rules.proofs.CasesAreTasks.{of_all}
 use Rattle.cd_rules.proofs.PairsBack.{both_of_each, three_of_each, parts_of_asked, parts_of_asked_more}
 use Rattle.cd_rules.proofs.ReasonsOf.{IsNamed}
 use Rattle.cd_rules.proofs.RowsExact.{SaysNoMore, labelled_by, IsAs, IsReason, of_reason, wanted_in_row, refused_in_row}
@@ -160,14 +162,18 @@ arrows_at_first wanted refused = of_each refused
 
 pub arrows_of_cases : (task : Task) (cases later : List Task) → AreCases task cases
     → AllOf (λ case. arrows_of (case ∷ later) ≡ arrows_of (task ∷ later)) cases
-arrows_of_cases _ _ later (pair_cases wanted refused given left rest x taken) = (refl, (refl, tt))
-arrows_of_cases _ _ later (xml_cases wanted refused given left rest x taken) = (refl, (refl, (refl, tt)))
-arrows_of_cases _ _ later (arrow_cases refused wanted given left rest x taken) = (refl, (refl, tt))
+arrows_of_cases _ _ later (pair_cases wanted refused given left group rest x differs taken is) =
+    of_all (λ side. PairTask wanted refused (to_side side group given) rest) (λ case. arrows_of (case ∷ later) ≡ arrows_of later)
+    (λ side. refl) (other_sides differs ++ differs ∷ [])
+arrows_of_cases _ _ later (xml_cases wanted refused given left group rest x differs taken is) =
+    of_all (λ side. XmlTask wanted refused (to_xml_side side group given) rest) (λ case. arrows_of (case ∷ later) ≡ arrows_of later)
+    (λ side. refl) (other_xml_sides differs ++ differs ∷ [])
+arrows_of_cases _ _ later (arrow_cases refused wanted given left group rest x differs taken is) =
+    of_all (λ side. ArrowTask refused wanted (to_side side group given) rest) (λ case. arrows_of (case ∷ later) ≡ refused ∷ arrows_of later)
+    (λ side. refl) (other_sides differs ++ differs ∷ [])
 arrows_of_cases _ _ later (record_cases wanted refused given left rest type taken) =
-    each_of_map (λ reason. RecordTask wanted refused ((type, reason) ∷ given) rest)
-    (λ case. arrows_of (case ∷ later) ≡ arrows_of later) (None ∷ map Some (labels_of (wanted ++ refused)))
-    (each_of_all (λ reason. arrows_of (RecordTask wanted refused ((type, reason) ∷ given) rest ∷ later) ≡ arrows_of later)
-    (λ reason. refl) (None ∷ map Some (labels_of (wanted ++ refused))))
+    of_all (λ reason. RecordTask wanted refused ((type, reason) ∷ given) rest) (λ case. arrows_of (case ∷ later) ≡ arrows_of later)
+    (λ reason. refl) (None ∷ map Some (labels_of (wanted ++ refused)))
 
 -- where no arrow is left it is in the clause
 pub function_of_arrows : (graph : Graph) (wanted refused : List Pair) (pairs : thing.Pairs)

@@ -1,9 +1,9 @@
 -- A list whose members differ is no longer than one that has them all.
-use Rattle.std.proofs.Common.{◌≡◌, ◌≤◌, ◌⊎◌, suc, List, [], ◌∷◌, length, inl, inr, refl, sym, ap, subst}
+use Rattle.std.proofs.Common.{◌≡◌, ◌≤◌, ◌+◌, ◌⊎◌, suc, List, [], ◌∷◌, length, inl, inr, refl, sym, ap, subst}
 use native.Mathlib.Omega.{arith}
 use Rattle.cd_model.specs.AllOf.{AnyOf}
 use Rattle.cd_rules.specs.Family.{AreAmong}
-use Rattle.cd_rules.specs.Tasks.{Takes, taken_here, taken_later}
+use Rattle.cd_rules.specs.Tasks.{Takes, taken_here, taken_later, TakesAll, takes_none, takes_one}
 use Rattle.cd_rules.specs.Machine.{NotIn}
 use Rattle.cd_rules.specs.Right.{Differ}
 
@@ -11,6 +11,11 @@ use Rattle.cd_rules.specs.Right.{Differ}
 pub taken_length : {X : Type 0} (x : X) (all rest : List X) → Takes x all rest → length all ≡ suc (length rest)
 taken_length x _ _ (taken_here rest) = refl
 taken_length x _ _ (taken_later other all rest taken) = ap suc (taken_length x all rest taken)
+
+pub all_taken_length : {X : Type 0} (some all rest : List X) → TakesAll some all rest → length all ≡ length some + length rest
+all_taken_length _ _ _ (takes_none all) = omega arith
+all_taken_length _ _ _ (takes_one x some all fewer rest taken more) =
+    let one = taken_length x all fewer taken in let others = all_taken_length some fewer rest more in omega arith
 
 module _ {X : Type 0} (x : X) where
   -- one of a list may be taken out

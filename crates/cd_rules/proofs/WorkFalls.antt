@@ -1,10 +1,11 @@
 -- Each step gives one witness more, or as many and a longer list, or both alike and less that is left to do.
-use Rattle.std.proofs.Common.{◌≡◌, ◌<◌, ◌+◌, ◌*◌, ℕ, zero, suc, List, [], ◌∷◌, ◌++◌, Some, length, map, Bool, true, false}
+use Rattle.std.proofs.Common.{◌≡◌, ◌<◌, ◌≤◌, ◌+◌, ◌*◌, ℕ, zero, suc, List, [], ◌∷◌, ◌++◌, Some, length, map, Bool, true, false}
 use Rattle.std.proofs.Common.{inl, inr, refl, ap, ◌∙◌, append_assoc, append-nil}
 use native.Mathlib.Omega.{arith}
 use Rattle.std.proofs.Math.Nat.{suc-mul, add-mul, mul-add, mul_assoc}
 use Rattle.std.proofs.lemmas.List.{length-append, length-map}
 use Rattle.cd_sets.specs.declared.question.Question.{Question}
+use Rattle.cd_model.specs.AllOf.{AnyOf}
 use Rattle.cd_model.specs.Formula.{Formula, Formulas, NoFormula, AFormula, And, Or, Not, Graph}
 use Rattle.cd_model.specs.Kinds.{Kind}
 use Rattle.cd_rules.specs.Dnf.{Conjunct, joined}
@@ -12,6 +13,8 @@ use Rattle.cd_rules.specs.KindDnf.{kind_dnf, kind_of_each, kind_of_one}
 use Rattle.cd_rules.specs.PartialConjuncts.{Signed, Partial, partial, clause_by, completions, each_signed, GoesOn, unfolds, divides, extends}
 use Rattle.cd_rules.specs.PartialConjuncts.{IsConjunction, wants_each, refuses_each, denies, IsDisjunction, wants_one, refuses_one}
 use Rattle.cd_rules.specs.Rows.{labels_of}
+use Rattle.cd_rules.specs.Groups.{Side, AtFirst, AtSecond, XmlSide, AtTag, AtAttributes, AtContent}
+use Rattle.cd_rules.specs.Groups.{other_sides, other_xml_sides, to_side, to_xml_side}
 use Rattle.cd_rules.specs.Tasks.{Task, PairTask, XmlTask, ArrowTask, RecordTask}
 use Rattle.cd_rules.specs.Tasks.{AreCases, pair_cases, xml_cases, arrow_cases, record_cases}
 use Rattle.cd_rules.proofs.Completions.{completions_unfold, joined_both, divided}
@@ -19,7 +22,7 @@ use Rattle.cd_rules.specs.Machine.{Work, Works, goes_further, cuts, begins, drop
 use Rattle.cd_rules.specs.Machine.{State, Step, opens, knows, works, finds, leaves}
 use Rattle.cd_rules.specs.Weight.{weight, task_weight, sum_of, clause_weight, formula_weight, weight_of_each, weight_of_one}
 use Rattle.cd_rules.specs.Weight.{joining_weight, partial_weight, work_weight, IsFurther}
-use Rattle.cd_rules.proofs.ShorterLists.{taken_length}
+use Rattle.cd_rules.proofs.ShorterLists.{taken_length, all_taken_length}
 
 sum_of_both : {X : Type 0} (weight_of : X → ℕ) (some others : List X)
     → sum_of weight_of (some ++ others) ≡ sum_of weight_of some + sum_of weight_of others
@@ -40,11 +43,51 @@ row_falls : (some count one whole others : ℕ) → some ≡ count → whole ≡
 row_falls some count one whole others same is so =
     let times = suc-mul count one in let others_are = so ∙ ap (λ n. n * one) same in omega arith
 
+-- a task with more members that are left weighs no less
+more_weighs : (k more members all : ℕ) → all ≡ more + members → weight (suc k) members ≤ weight (suc k) all
+more_weighs k zero members all same = let is : all ≡ members = omega arith in let weighs = ap (weight (suc k)) is in omega arith
+more_weighs k (suc more) members zero same = absurd (omega arith)
+more_weighs k (suc more) members (suc all) same =
+    let fewer = more_weighs k more members all (omega arith) in let times = suc-mul k (weight (suc k) all) in omega arith
+
+-- so a group that is taken out leaves less
+group_falls : (count rest left : ℕ) → 0 < count → left ≡ count + rest → 2 * weight 2 rest < weight 2 left
+group_falls zero rest left some same = absurd (omega arith)
+group_falls (suc count) rest zero some same = absurd (omega arith)
+group_falls (suc count) rest (suc left) some same = let fewer = more_weighs 1 count rest left (omega arith) in omega arith
+
+xml_group_falls : (count rest left : ℕ) → 0 < count → left ≡ count + rest → 3 * weight 3 rest < weight 3 left
+xml_group_falls zero rest left some same = absurd (omega arith)
+xml_group_falls (suc count) rest zero some same = absurd (omega arith)
+xml_group_falls (suc count) rest (suc left) some same = let fewer = more_weighs 2 count rest left (omega arith) in omega arith
+
+has_members : {X : Type 0} (x : X) (group : List X) → AnyOf (λ other. other ≡ x) group → 0 < length group
+has_members x [] there = elim there [ ]
+has_members x (y ∷ group) there = omega arith
+
+count_sides : (differs : Side) → length (other_sides differs ++ differs ∷ []) ≡ 2
+count_sides AtFirst = refl
+count_sides AtSecond = refl
+
+count_xml_sides : (differs : XmlSide) → length (other_xml_sides differs ++ differs ∷ []) ≡ 3
+count_xml_sides AtTag = refl
+count_xml_sides AtAttributes = refl
+count_xml_sides AtContent = refl
+
 -- the cases of a task weigh less than the task
 cases_fall : (task : Task) (all : List Task) → AreCases task all → sum_of task_weight all < task_weight task
-cases_fall _ _ (pair_cases wanted refused given left rest x taken) = let whole = ap (weight 2) (taken_length x left rest taken) in omega arith
-cases_fall _ _ (xml_cases wanted refused given left rest x taken) = let whole = ap (weight 3) (taken_length x left rest taken) in omega arith
-cases_fall _ _ (arrow_cases refused wanted given left rest x taken) = let whole = ap (weight 2) (taken_length x left rest taken) in omega arith
+cases_fall _ _ (pair_cases wanted refused given left group rest x differs taken is) =
+    let falls = group_falls (length group) (length rest) (length left) (has_members x group is.0) (all_taken_length group left rest taken) in
+    let same = sum_of_same (λ side. PairTask wanted refused (to_side side group given) rest) (weight 2 (length rest)) (λ side. refl)
+    (other_sides differs ++ differs ∷ []) ∙ ap (λ n. n * weight 2 (length rest)) (count_sides differs) in omega arith
+cases_fall _ _ (xml_cases wanted refused given left group rest x differs taken is) =
+    let falls = xml_group_falls (length group) (length rest) (length left) (has_members x group is.0) (all_taken_length group left rest taken) in
+    let same = sum_of_same (λ side. XmlTask wanted refused (to_xml_side side group given) rest) (weight 3 (length rest)) (λ side. refl)
+    (other_xml_sides differs ++ differs ∷ []) ∙ ap (λ n. n * weight 3 (length rest)) (count_xml_sides differs) in omega arith
+cases_fall _ _ (arrow_cases refused wanted given left group rest x differs taken is) =
+    let falls = group_falls (length group) (length rest) (length left) (has_members x group is.0) (all_taken_length group left rest taken) in
+    let same = sum_of_same (λ side. ArrowTask refused wanted (to_side side group given) rest) (weight 2 (length rest)) (λ side. refl)
+    (other_sides differs ++ differs ∷ []) ∙ ap (λ n. n * weight 2 (length rest)) (count_sides differs) in omega arith
 cases_fall _ _ (record_cases wanted refused given left rest type taken) =
     let labels = labels_of (wanted ++ refused) in
     let whole = ap (weight (suc (length labels))) (taken_length type left rest taken) in

@@ -15,6 +15,7 @@ pub mod InWay
 pub mod BasicSets
 pub mod KindDnf
 pub mod Fails
+pub mod Groups
 pub mod Tasks
 pub mod PartialConjuncts
 pub mod MadeForTasks

@@ -8,8 +8,9 @@ use Rattle.cd_model.specs.AllOf.{AllOf, AnyOf}
 use Rattle.cd_rules.specs.Clauses.{Clause, Pairs, Xmls, Records, Arrows, Pair, Triple, RecordType}
 use Rattle.cd_rules.specs.Family.{SameMembers, IsSubsumed, RefutesRow, AsksNodes}
 use Rattle.cd_rules.specs.Within.{IsWithin}
-use Rattle.cd_rules.specs.Needs.{Way, pair_way, xml_way, arrow_way, to_one, to_other, to_first}
-use Rattle.cd_rules.specs.Needs.{to_middle, to_last}
+use Rattle.cd_rules.specs.Groups.{Side, XmlSide, part, xml_part, other_sides, other_xml_sides}
+use Rattle.cd_rules.specs.Groups.{to_side, to_xml_side, IsGroup}
+use Rattle.cd_rules.specs.Needs.{Way, pair_way, xml_way, arrow_way}
 use Rattle.cd_rules.specs.Rows.{Cell, Row, Reason, Reasons, row_of, labels_of}
 use Rattle.cd_rules.specs.Fails.{Fails, ThreeFail, RowsFail}
 
@@ -71,24 +72,34 @@ pub data Takes {X : Type 0} (x : X) : (all rest : List X) → Type 0 where
   taken_later : (other : X) (all rest : List X) → Takes x all rest
       → Takes x (other ∷ all) (other ∷ rest)
 
--- a member that was given to none is given to each side in turn
+-- these are taken out of a list, one after the other
+pub data TakesAll {X : Type 0} : (some all rest : List X) → Type 0 where
+  takes_none : (all : List X) → TakesAll [] all all
+  takes_one : (x : X) (some all fewer rest : List X) → Takes x all fewer
+      → TakesAll some fewer rest → TakesAll (x ∷ some) all rest
+
+-- A group of members that were given to none is given to each side in turn. Its members have the
+-- same parts on all sides but the last one, and it may be one member alone. Of records one type is
+-- given each reason in turn
 pub data AreCases : Task → List Task → Type 0 where
-  pair_cases : (wanted refused : List Pair) (given : List Pair × List Pair) (left rest : List Pair)
-      (x : Pair) → Takes x left rest
+  pair_cases : (wanted refused : List Pair) (given : List Pair × List Pair)
+      (left group rest : List Pair) (x : Pair) (differs : Side) → TakesAll group left rest
+      → IsGroup part (other_sides differs) x group
       → AreCases (PairTask wanted refused given left)
-      (PairTask wanted refused (to_one x given) rest
-      ∷ PairTask wanted refused (to_other x given) rest ∷ [])
+      (map (λ side. PairTask wanted refused (to_side side group given) rest)
+      (other_sides differs ++ differs ∷ []))
   xml_cases : (wanted refused : List Triple) (given : List Triple × List Triple × List Triple)
-      (left rest : List Triple) (x : Triple) → Takes x left rest
+      (left group rest : List Triple) (x : Triple) (differs : XmlSide) → TakesAll group left rest
+      → IsGroup xml_part (other_xml_sides differs) x group
       → AreCases (XmlTask wanted refused given left)
-      (XmlTask wanted refused (to_first x given) rest
-      ∷ XmlTask wanted refused (to_middle x given) rest
-      ∷ XmlTask wanted refused (to_last x given) rest ∷ [])
+      (map (λ side. XmlTask wanted refused (to_xml_side side group given) rest)
+      (other_xml_sides differs ++ differs ∷ []))
   arrow_cases : (refused : Pair) (wanted : List Pair) (given : List Pair × List Pair)
-      (left rest : List Pair) (x : Pair) → Takes x left rest
+      (left group rest : List Pair) (x : Pair) (differs : Side) → TakesAll group left rest
+      → IsGroup part (other_sides differs) x group
       → AreCases (ArrowTask refused wanted given left)
-      (ArrowTask refused wanted (to_one x given) rest
-      ∷ ArrowTask refused wanted (to_other x given) rest ∷ [])
+      (map (λ side. ArrowTask refused wanted (to_side side group given) rest)
+      (other_sides differs ++ differs ∷ []))
   record_cases : (wanted refused : List RecordType) (given : Reasons) (left rest : List RecordType)
       (type : RecordType) → Takes type left rest
       → AreCases (RecordTask wanted refused given left)

@@ -1,27 +1,52 @@
--- Cases that are equal to those of the rules are cases.
-use Rattle.std.proofs.Common.{◌≡◌, ◌≤◌, ℕ, List, [], ◌∷◌, ◌++◌, map, drop, length, Bor, None, Some, sym, ap, ◌∙◌, subst, append-nil}
+-- The cases that are made are those of the rules.
+use Rattle.std.proofs.Common.{◌≡◌, ◌≤◌, ℕ, List, [], ◌∷◌, ◌++◌, map, drop, length, slice_get, Bor, None, Some, refl, sym, ap, ◌∙◌, subst, append-nil}
 use Rattle.std.proofs.lemmas.List.{drop_all}
 use Rattle.cd_syntax.specs.Name.{Name}
-use Rattle.cd_model.specs.AllOf.{AllOf}
+use Rattle.cd_model.specs.AllOf.{AllOf, AnyOf}
 use Rattle.cd_rules.specs.Clauses.{RecordType}
+use Rattle.cd_rules.specs.Groups.{Side, AtFirst, AtSecond, XmlSide, AtTag, AtAttributes, AtContent}
 use Rattle.cd_rules.specs.Rows.{Reason, Reasons, labels_of}
-use Rattle.cd_rules.specs.Tasks.{Task, RecordTask, AreCases}
+use Rattle.cd_rules.specs.Tasks.{Task, RecordTask, TakesAll}
 use Rattle.cd_rules.proofs.Answered.{map_of_each}
 use Rattle.cd_rules.proofs.Asking.{each_of_map}
-use Rattle.cd_model.proofs.Ones.{each_of_all}
+use Rattle.cd_model.proofs.Ones.{each_of_all, one_weaker}
 use Rattle.cd_needs.specs.PlainReasons.{plain_labels}
+use Rattle.cd_tasks.specs.Inner.Groups.{of_side, of_xml_side}
+use Rattle.cd_tasks.specs.LeftWithout.{IsTakenAt}
 
-pub two_cases : (task : Task) (cases : List Task) (first second one other : Task) → cases ≡ first ∷ second ∷ []
-    → first ≡ one → second ≡ other → AreCases task (one ∷ other ∷ []) → AreCases task cases
-two_cases task cases first second one other made is_one is_other are =
-    subst (AreCases task) (sym (made ∙ ap (λ case. case ∷ second ∷ []) is_one ∙ ap (λ case. one ∷ case ∷ []) is_other)) are
+-- what is made for each side
+made_of_sides : {S Y : Type 0} (of make : S → Y) → ((side : S) → of side ≡ make side) → (sides : List S) → map of sides ≡ map make sides
+made_of_sides of make same [] = refl
+made_of_sides of make same (side ∷ sides) =
+    ap (λ first. first ∷ map of sides) (same side) ∙ ap (λ rest. make side ∷ rest) (made_of_sides of make same sides)
 
-pub three_cases : (task : Task) (cases : List Task) (first second third one other last : Task)
-    → cases ≡ first ∷ second ∷ third ∷ [] → first ≡ one → second ≡ other → third ≡ last
-    → AreCases task (one ∷ other ∷ last ∷ []) → AreCases task cases
-three_cases task cases first second third one other last made is_one is_other is_last are =
-    subst (AreCases task) (sym (made ∙ ap (λ case. case ∷ second ∷ third ∷ []) is_one
-    ∙ ap (λ case. one ∷ case ∷ third ∷ []) is_other ∙ ap (λ case. one ∷ other ∷ case ∷ []) is_last)) are
+pub made_in_order : {Y : Type 0} (first second : Y) (make : Side → Y) → first ≡ make AtFirst → second ≡ make AtSecond
+    → (sides : List Side) → map (of_side first second) sides ≡ map make sides
+made_in_order first second make at_first at_second = made_of_sides (of_side first second) make by_side
+  where
+    by_side : (side : Side) → of_side first second side ≡ make side
+    by_side AtFirst = at_first
+    by_side AtSecond = at_second
+
+pub made_in_xml_order : {Y : Type 0} (tag attributes content : Y) (make : XmlSide → Y) → tag ≡ make AtTag → attributes ≡ make AtAttributes
+    → content ≡ make AtContent → (sides : List XmlSide) → map (of_xml_side tag attributes content) sides ≡ map make sides
+made_in_xml_order tag attributes content make at_tag at_attributes at_content =
+    made_of_sides (of_xml_side tag attributes content) make by_side
+  where
+    by_side : (side : XmlSide) → of_xml_side tag attributes content side ≡ make side
+    by_side AtTag = at_tag
+    by_side AtAttributes = at_attributes
+    by_side AtContent = at_content
+
+-- the member at a place is taken out with its group
+pub taken_at : {X : Type 0} (left group rest : List X) (place : ℕ) (member : X) → TakesAll group left rest → slice_get left place ≡ Some member
+    → AnyOf (λ one. one ≡ member) group → IsTakenAt left place rest
+taken_at left group rest place member taken at there = (
+  group,
+  taken,
+  one_weaker (λ one. one ≡ member) (λ one. slice_get left place ≡ Some one)
+      (λ one same. at ∙ ap Some (sym same)) group there,
+)
 
 -- the case of a task for records where a type has a reason
 abbrev pub record_case : (wanted refused : List RecordType) → Reasons → (left : List RecordType) → RecordType → Reason → Task
@@ -37,15 +62,6 @@ pub record_cases_made : (wanted refused : List RecordType) (given : Reasons) (re
 record_cases_made wanted refused given rest type labels index made so_far past named = sym (append-nil made)
     ∙ ap (λ left. made ++ map (record_case wanted refused given rest type) (map Some (plain_labels left))) (sym (drop_all index labels past))
     ∙ so_far ∙ ap (λ names. map (record_case wanted refused given rest type) (None ∷ map Some names)) named
-
--- a fact of each of two things, and of each of three
-pub each_of_two : {X : Type 0} (fact : X → Type 0) {all : List X} {first second : X} → all ≡ first ∷ second ∷ []
-    → fact first → fact second → AllOf fact all
-each_of_two fact same is is_too = subst (AllOf fact) (sym same) (is, (is_too, tt))
-
-pub each_of_three : {X : Type 0} (fact : X → Type 0) {all : List X} {first second third : X} → all ≡ first ∷ second ∷ third ∷ []
-    → fact first → fact second → fact third → AllOf fact all
-each_of_three fact same is is_too is_last = subst (AllOf fact) (sym same) (is, (is_too, (is_last, tt)))
 
 -- what is so of all that a function makes is so of things of which such are made
 pub each_of_made : {X Y Z : Type 0} (f : X → Y) (make : Z → Y) (fact : Y → Type 0) → ((z : Z) → fact (make z)) → (xs : List X) (zs : List Z)

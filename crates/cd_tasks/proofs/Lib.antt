@@ -1,5 +1,7 @@
 mod CasesMade
 mod Taken
+mod GroupsTaken
+mod GroupCases
 mod PartsOfLists
 mod NextWords
 mod Odometers

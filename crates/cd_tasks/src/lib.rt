@@ -6,6 +6,7 @@ mod arrow;
 mod cases;
 mod clauses;
 mod given;
+mod group;
 pub mod laws;
 mod lists;
 mod odometer;
@@ -19,6 +20,7 @@ pub mod task;
 mod walk;
 mod way;
 mod xml;
+mod xml_group;
 
 pub use of_clause::tasks_of;
 pub use row_walk::{RowStep, RowWalk};

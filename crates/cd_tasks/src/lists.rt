@@ -1,4 +1,4 @@
-ghost use Rattle.std.specs.Prelude.{◌≡◌, ◌<◌, ◌∷◌, length, IfOk};
+ghost use Rattle.std.specs.Prelude.{◌≡◌, ◌<◌, ◌∷◌, ◌++◌, length, IfOk};
 ghost use Rattle.std.specs.List.{remove};
 
 use std::alloc::{AllocError, Global};
@@ -14,6 +14,20 @@ pub(crate) fn prepended<T: Copy + Drop>(
 {
     let mut all = Vec::with_capacity(alloc, others.len().saturating_add(1))?;
     all.push(one)?;
+    all.extend_from_slice(others)?;
+    Ok(all)
+}
+
+/// Those of two lists.
+pub(crate) fn joined<T: Copy + Drop>(
+    alloc: Global,
+    some: &[T],
+    others: &[T],
+) -> Result<Vec<T>, AllocError>
+    ensures { IfOk result (λ all. all.items ≡ some.now ++ others.now) }
+{
+    let mut all = Vec::with_capacity(alloc, some.len().saturating_add(others.len()))?;
+    all.extend_from_slice(some)?;
     all.extend_from_slice(others)?;
     Ok(all)
 }

@@ -1,18 +1,18 @@
-use Rattle.std.proofs.Common.{ap, map, sym, subst, get_or, ◌∙◌}
+use Rattle.std.proofs.Common.{ap, subst, ◌∙◌}
+use Rattle.std.proofs.lemmas.Result.{IfOk-weaker}
 use Rattle.std.specs.List.{remove}
-use Rattle.cd_rules.specs.Tasks.{Takes, xml_cases}
-use Rattle.cd_tasks.specs.PlainTask.{plain_task}
-use Rattle.cd_tasks.proofs.CasesMade.{three_cases}
-use Rattle.cd_tasks.proofs.Taken.{takes}
+use Rattle.cd_tasks.specs.Inner.Groups.{IsXmlGroupAt}
+use Rattle.cd_tasks.proofs.GroupCases.{are_xml_cases, xml_left}
 use Rattle.cd_tasks.proofs.task.XmlTask.cases.Goals as goal
 
--- the member is taken out of those left
 pub returns-clause-cases : goal.returns-clause-cases
 returns-clause-cases c =
-    let member = c.index-member.result.now in
-    let left = c.args.self.now.left.value.items in
-    let is = c.index-member.ensures ∙ ap (λ all. get_or all.items c.args.place member) c.deref.ensures in
-    let rest = c.in_ok-rest.ensures
-    ∙ ap (λ items. remove items c.args.place) (c.as_slice.ensures.value ∙ ap (λ all. all.items) c.deref-2.ensures) in
-    three_cases _ _ _ _ _ _ _ _ (ap (map plain_task) c.in_ok-vec.ensures.items) c.in_ok-tag.ensures c.in_ok-attributes.ensures c.in_ok-content.ensures
-    (xml_cases _ _ _ _ _ member (subst (Takes member left) (sym rest) (takes left c.args.place member is c.requires)))
+    let left = c.as_slice.ensures.value ∙ ap (λ all. all.items) c.deref.ensures in
+    IfOk-weaker c.cases_of.result _ _ (λ cases made. are_xml_cases c.args.self.now c.args.place c.in_ok-group.group cases.items made
+    (subst (λ left. IsXmlGroupAt left c.args.place c.in_ok-group.group) left c.in_ok-group.ensures.group)) c.cases_of.ensures
+
+pub returns-clause-taken : goal.returns-clause-taken
+returns-clause-taken c =
+    let left = c.as_slice.ensures.value ∙ ap (λ all. all.items) c.deref.ensures in
+    IfOk-weaker c.cases_of.result _ _ (λ cases made. xml_left c.args.self.now c.args.place c.in_ok-group.group cases.items made
+    (c.in_ok-group.ensures.rest ∙ ap (λ left. remove left c.args.place) left)) c.cases_of.ensures

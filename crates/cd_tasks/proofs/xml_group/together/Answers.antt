@@ -1,0 +1,9 @@
+use Rattle.std.proofs.Common.{ap, ◌∙◌}
+use Rattle.cd_tasks.specs.Inner.Groups.{plain_xml_side}
+use Rattle.cd_tasks.proofs.GroupsTaken.{xml_group_together}
+use Rattle.cd_tasks.proofs.xml_group.together.Goals as goal
+
+-- those that agree with the member are its group
+pub returns : goal.returns
+returns c = xml_group_together (plain_xml_side c.args.differs) c.args.left.now c.in_ok-members.members.items _ c.args.place _ c.requires
+    (ap (λ rest. (c.in_ok-members.members.items, rest.items)) c.in_ok-rest.ensures.ok ∙ c.in_ok-members.ensures)
