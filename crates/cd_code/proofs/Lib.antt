@@ -1,5 +1,3 @@
-mod Characters
-mod NextItem
 mod PartsFound
 mod SlotsFilled
 mod VariableNumbers

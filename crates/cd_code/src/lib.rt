@@ -1,5 +1,4 @@
-//! The code of a program: its functions by their places and names, and what its patterns take. The
-//! constants of a program are elements.
+//! The code of a program: its functions by their places and names, and what its patterns take.
 #![tactic(auto)]
 
 mod binding;
@@ -7,7 +6,6 @@ mod bindings;
 mod capturing;
 pub mod code;
 mod compiling;
-mod constants;
 mod copy;
 mod find;
 pub mod laws;
@@ -20,4 +18,3 @@ mod tests;
 
 pub use code::Code;
 pub use compiling::compile;
-pub use constants::constants_are_elements;

@@ -12,3 +12,12 @@ mod FunctionPlaces
 mod PatternStarts
 mod DifferentPlaces
 pub mod PlacesOfPrograms
+mod TokensInRange
+mod PartsInRange
+mod ExprsInRange
+mod QueriesInRange
+mod OnesInRange
+mod TwosInRange
+mod ThreesInRange
+mod MakesInRange
+pub mod ProgramsInRange

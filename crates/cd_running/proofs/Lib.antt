@@ -1,6 +1,7 @@
 pub mod RunReplies
 pub mod InputDecided
 mod FileRefused
+mod Characters
 pub mod TypedPrograms
 mod SafeRuns
 mod RunsAnswered

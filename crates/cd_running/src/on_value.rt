@@ -14,7 +14,7 @@ ghost use Rattle.cd_running.specs.TypedProgram.{IsTypedProgram};
 use crate::input::is_input;
 use crate::safety::typed_programs_are_safe;
 use cd_cells::{ValueId, Values};
-use cd_code::{Code, compile, constants_are_elements};
+use cd_code::{Code, compile};
 use cd_empty::World;
 use cd_machine::{Ran, run};
 use cd_program::program::Program;
@@ -94,8 +94,7 @@ fn with_names(
     ensures within { IfOk result
         (λ ran. IfSome ran (λ ran. IsOutcome (length (table values.new)) ran.outcome)) }
 {
-    // The contracts of these calls say that the program is safe.
-    constants_are_elements(program);
+    // A program with types is safe.
     typed_programs_are_safe();
     world.graph();
     let mut code = compile(alloc, world, names, program, values)?;

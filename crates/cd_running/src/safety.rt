@@ -1,21 +1,18 @@
 //! That programs which are read and have types are safe.
 ghost use Rattle.cd_model.specs.AllOf.{AllOf};
 ghost use Rattle.cd_program.specs.Expr.{Program};
-ghost use Rattle.cd_safety.specs.KindsIn.{KindsOfFunction};
 ghost use Rattle.cd_safety.specs.PatternsIn.{EachOfFunction};
 ghost use Rattle.cd_safety.specs.PatternTypes.{IsTypedPattern};
 ghost use Rattle.cd_safety.specs.SafeProgram.{IsSafeProgram};
-ghost use Rattle.cd_safety.specs.WellWritten.{InRange};
 ghost use Rattle.cd_typing.specs.Typed.{scope_of};
 ghost use Rattle.cd_running.specs.TypedProgram.{IsTypedProgram};
 
 use cd_safety::laws::{accepted_programs_are_safe, typed_programs_are_accepted};
 
-/// A program that was read and has types is safe, where its constants are in range and the types of
-/// its patterns are nodes of a graph.
+/// A program that was read and has types is safe, where the types of its patterns are nodes of a
+/// graph.
 pub(crate) fn typed_programs_are_safe()
     ensures { (program : Program) → IsTypedProgram program
-        → AllOf (KindsOfFunction InRange) program.functions
         → AllOf (EachOfFunction (IsTypedPattern (scope_of program))) program.functions
         → IsSafeProgram program }
 {

@@ -1,6 +1,6 @@
 -- The text of the workload's program reads as its program, as no other one, and is not refused.
 use Rattle.std.proofs.Common.{◌≡◌, refl}
-use Rattle.std.specs.Str.{chars}
+use Rattle.std.specs.Str.{chars, IsUtf8}
 use Rattle.cd_program.specs.Expr.{Program}
 use Rattle.cd_program.specs.WellMade.{IsWellMadeProgram}
 use Rattle.cd_grammar.proofs.MadeWell.{text_makes_program}
@@ -12,6 +12,10 @@ use Rattle.cd_work.proofs.ProgramTokens.{program_tokens}
 use Rattle.cd_work.proofs.ProgramSpelled.{program_spelled}
 use Rattle.cd_work.proofs.ProgramRun.{tokens_write_program}
 use Rattle.cd_work.proofs.ProgramNamed.{program_named}
+
+-- each of its characters is a byte
+pub program_encoded : IsUtf8 program_text
+program_encoded = (program_text, (refl, refl))
 
 pub program_reads : ReadsAsProgram program_text work_program
 program_reads = record {

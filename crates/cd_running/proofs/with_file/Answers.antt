@@ -12,7 +12,7 @@ use Rattle.cd_running.proofs.with_file.Goals as goal
 -- the program was read and has types
 pub with_types-requires : goal.with_types-requires
 with_types-requires g c =
-    typed_program c.args.text.now (plain_program c.in-Ok.program) (rw c.in-Ok.is at c.in_ok-program.ensures.read)
+    typed_program c.args.text.now (plain_program c.in-Ok.program) c.utf8.text (rw c.in-Ok.is at c.in_ok-program.ensures.read)
     (rw c.in-Ok.is at c.in_ok-program.ensures.well_made) (rw c.in-None.is at c.in_ok-no_types.ensures)
 
 pub returns-in-None : goal.returns-in-None

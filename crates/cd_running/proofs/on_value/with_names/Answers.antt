@@ -18,7 +18,7 @@ use Rattle.cd_running.proofs.on_value.with_names.Goals as goal
 pub with_code-requires-clause-safe : goal.with_code-requires-clause-safe
 with_code-requires-clause-safe c =
     subst IsSafeProgram (sym c.in_ok-code.ensures.program)
-    (c.typed_programs_are_safe.ensures (plain_program c.args.program.now) c.requires.typed c.constants_are_elements.ensures c.in_ok-code.ensures.patterns)
+    (c.typed_programs_are_safe.ensures (plain_program c.args.program.now) c.requires.typed c.in_ok-code.ensures.patterns)
 
 pub with_code-requires-clause-named : goal.with_code-requires-clause-named
 with_code-requires-clause-named c = names_grown (graph_of c.args.world.now) (graph_of c.compile.new.world) (plain_names c.args.names.now)

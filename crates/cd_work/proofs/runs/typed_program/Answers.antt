@@ -6,7 +6,7 @@ use Rattle.cd_replies.specs.Message.{text_fault, reply_of}
 use Rattle.cd_running.proofs.TypedPrograms.{typed_program}
 use Rattle.std.specs.Prelude.{codes}
 use Rattle.cd_work.specs.Workload.{program_text}
-use Rattle.cd_work.proofs.ProgramReads.{one_program, program_is_not_refused}
+use Rattle.cd_work.proofs.ProgramReads.{one_program, program_is_not_refused, program_encoded}
 use Rattle.cd_work.proofs.ProgramTyped.{program_is_typed}
 use Rattle.cd_work.proofs.runs.typed_program.Goals as goal
 
@@ -28,5 +28,5 @@ unreachable-requires-in-Some c =
 
 pub returns-clause-typed : goal.returns-clause-typed
 returns-clause-typed c =
-    typed_program program_text (plain_program c.in-Ok.program) (rw c.in-Ok.is at c.in_ok-program.ensures.read)
+    typed_program program_text (plain_program c.in-Ok.program) program_encoded (rw c.in-Ok.is at c.in_ok-program.ensures.read)
     (rw c.in-Ok.is at c.in_ok-program.ensures.well_made) (rw c.in-None.is at c.in_ok-no_types.ensures)
