@@ -1,4 +1,3 @@
-mod Letters
 mod TextsRead
 mod Places
 mod TypeNames
@@ -10,4 +9,3 @@ mod Agreement
 mod Beginning
 mod Reversed
 mod PathsLed
-mod Selected

@@ -4,9 +4,9 @@ use Rattle.cd_syntax.specs.declared.tokens.Span.{Span}
 use Rattle.cd_program.specs.Expr.{Expr}
 use Rattle.cd_query.specs.Core.{Step}
 use Rattle.cd_parser.specs.declared.paths.Reached.{Reached}
-use Rattle.cd_parser.specs.declared.query_parts.Step.{Step as CodeStep}
-use Rattle.cd_parser.specs.PlainParts.{plain_step}
-use Rattle.cd_parser.specs.Queries.{led}
+use Rattle.cd_query.specs.declared.parts.Step.{Step as CodeStep}
+use Rattle.cd_query.specs.PlainParts.{plain_step}
+use Rattle.cd_parser.specs.Paths.{led}
 use Rattle.cd_parser.proofs.Reversed.{pushed}
 
 pub one_more : (here : Span) (old new : List CodeStep) (step : CodeStep) (reached now : Reached) (whole : Expr)

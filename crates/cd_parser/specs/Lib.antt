@@ -1,5 +1,4 @@
 pub mod PlainParts
-pub mod Letters
 pub mod OfPrograms
 pub mod Popped
 pub mod PlainStacks
@@ -7,4 +6,4 @@ pub mod PlainSteps
 pub mod Ahead
 pub mod Reading
 pub mod Parsed
-pub mod Queries
+pub mod Paths

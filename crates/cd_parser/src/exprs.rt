@@ -3,15 +3,15 @@ ghost use Rattle.std.specs.Prelude.{◌≡◌, IfOk};
 ghost use Rattle.cd_grammar.specs.ProgramActions as actions;
 ghost use Rattle.cd_parser.specs.PlainParts.{plain_part};
 
+use crate::expr_part::expr_part;
 use crate::part::Part;
 use crate::program_taken::{chain_of, expr_of, exprs_of};
-use crate::rows::{added, row_of, row_of_two};
 use crate::taken::token_of;
-use crate::tree_part::expr_part;
-use crate::words::{constant_of, name_of};
 use cd_program::expr::{ExprKind, Tail};
 use cd_program::operator::{BuiltIn, Op};
 use cd_syntax::tokens::Span;
+use cd_tree_actions::rows::{added, row_of, row_of_two};
+use cd_tree_actions::words::{constant_of, name_of};
 use std::alloc::{AllocError, Global};
 
 /// A constant.

@@ -4,15 +4,15 @@ ghost use Rattle.cd_program.specs.PlainExpr.{plain_function, plain_signature, pl
 ghost use Rattle.cd_grammar.specs.ProgramActions as actions;
 ghost use Rattle.cd_parser.specs.PlainParts.{plain_part};
 
+use crate::expr_part::expr_part;
 use crate::part::Part;
 use crate::program_taken::{branches_of, expr_of, function_of, program_of, signatures_of};
-use crate::rows::{added, joined, row_of};
 use crate::taken::{names_of, token_of, tree_of};
-use crate::tree_part::expr_part;
-use crate::words::name_of;
 use cd_program::expr::{Branch, ExprKind, FunctionTree, Signature};
 use cd_program::operator::Form;
 use cd_syntax::tokens::{Span, Token};
+use cd_tree_actions::rows::{added, joined, row_of};
+use cd_tree_actions::words::name_of;
 use std::alloc::{AllocError, Global};
 
 /// A pattern, and what is given where it takes.

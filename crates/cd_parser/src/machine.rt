@@ -13,6 +13,7 @@ use crate::state::State;
 use crate::terminal::terminal_of;
 use cd_grammar::table::{Action, END, action_at};
 use cd_syntax::tokens::Token;
+use cd_tree_actions::part::TreePart;
 use std::alloc::{AllocError, Global};
 
 /// What a step leads to.
@@ -68,7 +69,7 @@ impl State<'_> {
             room,
             nested: 0,
             span: token.span,
-            part: Part::Token(token),
+            part: Part::Tree(TreePart::Token(token)),
         };
         self.stack.push(cell)?;
         self.index += 1;

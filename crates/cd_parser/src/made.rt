@@ -3,20 +3,14 @@ ghost use Rattle.std.specs.Prelude.{◌≡◌, IfOk};
 ghost use Rattle.cd_grammar.specs.Makes as makes;
 ghost use Rattle.cd_parser.specs.PlainParts.{plain_part};
 
-use crate::constants::{any, atom, character, named, number, text};
 use crate::exprs::{apply, chain, constant_expr, variable_expr};
 use crate::functions::{
     declared_function, first_function, first_type, if_else, let_in, matching, named_function,
     no_program,
 };
-use crate::names::{name, no_file};
 use crate::part::Part;
-use crate::patterns::{constant, default, variable};
-use crate::records::{fields, label, others, xml, xml_with};
-use crate::regular::{alternatives, in_turn};
 use crate::selects::{before_sources, selecting, source_where};
-use crate::sequences::{item, run};
-use crate::trees::{arrows, meet, union};
+use crate::tree_made::{make_tree_of_five, make_tree_of_four, make_tree_of_one};
 use crate::values::{label_expr, one_item, record_expr, run_item, xml_expr, xml_expr_with};
 use cd_grammar::make::{Five, Four, One, Six};
 use cd_syntax::tokens::Span;
@@ -27,7 +21,7 @@ use std::alloc::{AllocError, Global};
 /// # Errors
 ///
 /// Want of memory.
-pub(crate) fn of_one<'t>(
+pub(crate) fn make_of_one<'t>(
     alloc: Global,
     make: One,
     here: Span,
@@ -38,27 +32,10 @@ pub(crate) fn of_one<'t>(
 {
     match make {
         One::That => Ok(a),
-        One::Union => union(alloc, here, a),
-        One::Arrows => arrows(alloc, here, a),
-        One::Meet => meet(alloc, here, a),
-        One::Number => number(alloc, here, a),
-        One::Character => character(alloc, here, a),
-        One::Text => text(alloc, here, a),
-        One::Atom => atom(alloc, here, a),
-        One::Named => named(alloc, here, a),
-        One::Any => any(alloc, here),
-        One::Label => label(alloc, here, a),
-        One::Others => Ok(others(alloc)),
-        One::Attributes => fields(alloc, here, a),
-        One::Item => item(alloc, a),
-        One::Run => run(alloc, here, a),
-        One::Alternatives => alternatives(alloc, here, a),
-        One::InTurn => in_turn(alloc, here, a),
-        One::Mark(mark) => Ok(Part::Mark(mark)),
-        One::NoFile => Ok(no_file(alloc)),
-        One::Variable => variable(alloc, here, a),
-        One::Constant => constant(alloc, a),
-        One::NoProgram => Ok(no_program(alloc)),
+        One::NoProgram => {
+            drop(a);
+            Ok(no_program(alloc))
+        }
         One::FirstType => Ok(first_type(alloc, a)),
         One::FirstFunction => first_function(alloc, a),
         One::Chain => chain(alloc, here, a),
@@ -69,6 +46,7 @@ pub(crate) fn of_one<'t>(
         One::AttributesExpr => record_expr(alloc, here, a),
         One::RunItem => run_item(alloc, a),
         One::OneItem => one_item(alloc, a),
+        _ => make_tree_of_one(alloc, make, here, a),
     }
 }
 
@@ -77,7 +55,7 @@ pub(crate) fn of_one<'t>(
 /// # Errors
 ///
 /// Want of memory.
-pub(crate) fn of_four<'t>(
+pub(crate) fn make_of_four<'t>(
     alloc: Global,
     make: Four,
     here: Span,
@@ -90,15 +68,7 @@ pub(crate) fn of_four<'t>(
         (plain_part a.entry) (plain_part b.entry) (plain_part c.entry) (plain_part d.entry)) }
 {
     match make {
-        Four::Declaration => {
-            drop(a);
-            drop(c);
-            name(alloc, b, d)
-        }
-        Four::Xml => {
-            drop(a);
-            xml(alloc, here, b, c, d)
-        }
+        Four::Declaration | Four::Xml => make_tree_of_four(alloc, make, here, a, b, c, d),
         Four::Matching(form) => {
             drop(a);
             drop(c);
@@ -117,7 +87,7 @@ pub(crate) fn of_four<'t>(
 /// # Errors
 ///
 /// Want of memory.
-pub(crate) fn of_five<'t>(
+pub(crate) fn make_of_five<'t>(
     alloc: Global,
     make: Five,
     here: Span,
@@ -129,17 +99,7 @@ pub(crate) fn of_five<'t>(
 {
     let (a, b, c, d, e) = parts;
     match make {
-        Five::XmlWith => {
-            drop(a);
-            drop(d);
-            xml_with(alloc, here, b, c, e)
-        }
-        Five::Default => {
-            drop(a);
-            drop(c);
-            drop(e);
-            default(alloc, here, b, d)
-        }
+        Five::XmlWith | Five::Default => { make_tree_of_five(alloc, make, here, (a, b, c, d, e)) }
         Five::DeclaredFunction => {
             drop(a);
             declared_function(alloc, b, c, d, e)
@@ -167,7 +127,7 @@ pub(crate) fn of_five<'t>(
 /// # Errors
 ///
 /// Want of memory.
-pub(crate) fn of_six<'t>(
+pub(crate) fn make_of_six<'t>(
     alloc: Global,
     make: Six,
     here: Span,

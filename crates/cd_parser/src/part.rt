@@ -1,36 +1,13 @@
-use crate::query_parts::{Source, Step};
 use cd_program::expr::{Branch, Expr, FieldExpr, FunctionTree, Item, Signature, Tail};
-use cd_syntax::constant::Constant;
-use cd_syntax::tokens::Token;
-use cd_syntax::type_tree::{
-    Declaration, Declarations, FieldTree, Post, RegTree, Rest, SignedTree, Tree,
-};
+use cd_query::parts::{Source, Step};
+use cd_syntax::type_tree::Declaration;
+use cd_tree_actions::part::TreePart;
 
 /// What a rule of the grammar made.
 #[derive(Drop)]
 pub(crate) enum Part<'t> {
-    /// A token.
-    Token(&'t Token),
-    /// A tree.
-    Tree(Box<Tree>),
-    /// A row of trees.
-    Trees(Vec<Tree>),
-    /// A tree, and those after signs.
-    Signs(Box<Tree>, Vec<SignedTree>),
-    /// Fields of a record, and what stands after them.
-    Fields(Vec<FieldTree>, Rest),
-    /// Declarations.
-    Names(Vec<Declaration>),
-    /// A file of declarations.
-    File(Declarations),
-    /// An expression of sequences.
-    Regular(Box<RegTree>),
-    /// A row of expressions of sequences.
-    Regulars(Vec<RegTree>),
-    /// The sign after an expression of sequences.
-    Mark(Post),
-    /// A constant of a pattern.
-    Constant(Box<Constant>),
+    /// A token, or what a rule of types or patterns made.
+    Tree(TreePart<'t>),
     /// An expression.
     Expr(Box<Expr>),
     /// A row of expressions.

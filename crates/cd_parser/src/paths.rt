@@ -3,19 +3,20 @@ ghost use Rattle.std.specs.Prelude.{◌≡◌, [], ◌∷◌, List, map, reverse
 ghost use Rattle.cd_program.specs.PlainExpr.{plain, plain_tail};
 ghost use Rattle.cd_query.specs.Core as queries;
 ghost use Rattle.cd_grammar.specs.ProgramActions as actions;
-ghost use Rattle.cd_parser.specs.PlainParts.{plain_part, plain_step};
-ghost use Rattle.cd_parser.specs.Queries.{led};
+ghost use Rattle.cd_query.specs.PlainParts.{plain_step};
+ghost use Rattle.cd_parser.specs.PlainParts.{plain_part};
+ghost use Rattle.cd_parser.specs.Paths.{led};
 
 use crate::part::Part;
 use crate::program_taken::{expr_of, steps_of};
-use crate::queries::{attribute, child};
-use crate::query_parts::Step;
-use crate::rows::{added, row_of};
 use crate::taken::token_of;
-use crate::words::name_of;
 use cd_program::expr::{Expr, ExprKind, Tail};
+use cd_query::parts::Step;
+use cd_query::queries::{attribute, child};
 use cd_syntax::name::Name;
 use cd_syntax::tokens::{Span, Token};
+use cd_tree_actions::rows::{added, row_of};
+use cd_tree_actions::words::name_of;
 use std::alloc::{AllocError, Global};
 
 /// What some steps of a path lead to: an expression, and fields of it up to a place.

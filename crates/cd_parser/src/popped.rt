@@ -6,10 +6,10 @@ ghost use Rattle.cd_parser.specs.PlainParts.{plain_part};
 ghost use Rattle.cd_parser.specs.Popped.{AreLast, IsCut, IsMade};
 
 use crate::cell::Cell;
-use crate::made::{of_five, of_four, of_one, of_six};
-use crate::pairs::of_two;
+use crate::made::{make_of_five, make_of_four, make_of_one, make_of_six};
+use crate::pairs::make_of_two;
 use crate::part::Part;
-use crate::triples::of_three;
+use crate::triples::make_of_three;
 use cd_grammar::make::{Five, Four, Make, One, Six, Three, Two};
 use cd_syntax::tokens::Span;
 use std::alloc::{AllocError, Global};
@@ -76,7 +76,7 @@ fn one<'t>(
         return Ok(cut(at, stack));
     }
     let a = take_part(stack);
-    of_one(alloc, make, here, a)
+    make_of_one(alloc, make, here, a)
 }
 
 fn two<'t>(
@@ -95,7 +95,7 @@ fn two<'t>(
     }
     let b = take_part(stack);
     let a = take_part(stack);
-    of_two(alloc, make, here, a, b)
+    make_of_two(alloc, make, here, a, b)
 }
 
 fn three<'t>(
@@ -115,7 +115,7 @@ fn three<'t>(
     let c = take_part(stack);
     let b = take_part(stack);
     let a = take_part(stack);
-    of_three(alloc, make, here, a, b, c)
+    make_of_three(alloc, make, here, a, b, c)
 }
 
 fn four<'t>(
@@ -136,7 +136,7 @@ fn four<'t>(
     let c = take_part(stack);
     let b = take_part(stack);
     let a = take_part(stack);
-    of_four(alloc, make, here, a, b, c, d)
+    make_of_four(alloc, make, here, a, b, c, d)
 }
 
 fn five<'t>(
@@ -158,7 +158,7 @@ fn five<'t>(
     let c = take_part(stack);
     let b = take_part(stack);
     let a = take_part(stack);
-    of_five(alloc, make, here, (a, b, c, d, e))
+    make_of_five(alloc, make, here, (a, b, c, d, e))
 }
 
 fn six<'t>(
@@ -181,5 +181,5 @@ fn six<'t>(
     let c = take_part(stack);
     let b = take_part(stack);
     let a = take_part(stack);
-    of_six(alloc, make, here, (a, b, c, d, e, f))
+    make_of_six(alloc, make, here, (a, b, c, d, e, f))
 }

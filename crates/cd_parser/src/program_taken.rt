@@ -7,11 +7,12 @@ ghost use Rattle.cd_program.specs.PlainExpr.{plain_branch, plain_signature, plai
 ghost use Rattle.cd_grammar.specs.Parts.{expr_in, exprs_in, chain_in, items_in, expr_fields_in};
 ghost use Rattle.cd_grammar.specs.Parts.{branches_in, signatures_in, steps_in, sources_in};
 ghost use Rattle.cd_grammar.specs.Parts.{function_in, program_in};
-ghost use Rattle.cd_parser.specs.PlainParts.{plain_part, plain_step, plain_source};
+ghost use Rattle.cd_query.specs.PlainParts.{plain_step, plain_source};
+ghost use Rattle.cd_parser.specs.PlainParts.{plain_part};
 
 use crate::part::Part;
-use crate::query_parts::{Source, Step};
 use cd_program::expr::{Branch, Expr, FieldExpr, FunctionTree, Item, Signature, Tail};
+use cd_query::parts::{Source, Step};
 use cd_syntax::type_tree::Declaration;
 
 /// The expression that a part is.

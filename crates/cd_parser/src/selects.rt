@@ -5,11 +5,11 @@ ghost use Rattle.cd_parser.specs.PlainParts.{plain_part};
 
 use crate::part::Part;
 use crate::program_taken::{expr_of, sources_of};
-use crate::queries::select;
-use crate::query_parts::Source;
-use crate::rows::{added, row_of};
 use crate::taken::tree_of;
+use cd_query::parts::Source;
+use cd_query::queries::select;
 use cd_syntax::tokens::Span;
+use cd_tree_actions::rows::{added, row_of};
 use std::alloc::{AllocError, Global};
 
 /// A pattern, and the sequence from which it takes items.

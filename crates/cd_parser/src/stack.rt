@@ -10,7 +10,7 @@ ghost use Rattle.cd_parser.specs.PlainStacks.{plain_value, plain_stack, put};
 ghost use Rattle.cd_parser.specs.Popped.{IsMade};
 
 use crate::cell::Cell;
-use crate::made::of_one;
+use crate::made::make_of_one;
 use crate::nested::nested_in;
 use crate::part::Part;
 use crate::popped::of_last;
@@ -93,7 +93,7 @@ fn remake<'t>(alloc: Global, rule: u16, cell: &mut Cell<'t>) -> Result<(), Alloc
         Some(Make::One(One::That)) => Ok(()),
         Some(Make::One(make)) => {
             let part = mem::replace(&mut cell.part, Part::Junk);
-            cell.part = of_one(alloc, make, cell.span, part)?;
+            cell.part = make_of_one(alloc, make, cell.span, part)?;
             Ok(())
         }
         _ => {

@@ -8,6 +8,7 @@ ghost use Rattle.cd_syntax.specs.PlainTree.{plain, plain_declarations};
 ghost use Rattle.cd_grammar.specs.Parts.{ATree, AFile, AProgram as ProgramPart};
 ghost use Rattle.cd_grammar.specs.Language.{IsTree, AreDeclared, IsProgram};
 ghost use Rattle.cd_grammar.specs.Forms.{AType, SomeDeclarations, AProgram};
+ghost use Rattle.cd_tree_actions.specs.PlainTreeParts.{plain_tree_part};
 ghost use Rattle.cd_parser.specs.Parsed.{IsFault};
 ghost use Rattle.cd_parser.specs.PlainParts.{plain_part};
 
@@ -19,6 +20,7 @@ use cd_grammar::goal::Goal;
 use cd_program::program::{FunctionTrees, Program};
 use cd_syntax::tokens::Token;
 use cd_syntax::type_tree::{Declarations, Tree};
+use cd_tree_actions::part::TreePart;
 use std::alloc::Global;
 
 /// The type that tokens write, all of them; `end` is the place of the end of their text.
@@ -94,7 +96,17 @@ fn tree_in(part: Part<'_>) -> Tree
     ensures { ATree (plain result) ≡ plain_part part.entry }
 {
     match part {
-        Part::Tree(tree) => Box::into_inner(tree),
+        Part::Tree(part) => as_tree(part),
+        _ => unreachable!(),
+    }
+}
+
+fn as_tree(part: TreePart<'_>) -> Tree
+    requires { (is : PlainTree) × (plain_tree_part part ≡ ATree is) }
+    ensures { ATree (plain result) ≡ plain_tree_part part.entry }
+{
+    match part {
+        TreePart::Tree(tree) => Box::into_inner(tree),
         _ => unreachable!(),
     }
 }
@@ -105,7 +117,17 @@ fn file_in(part: Part<'_>) -> Declarations
     ensures { AFile (plain_declarations result) ≡ plain_part part.entry }
 {
     match part {
-        Part::File(declarations) => declarations,
+        Part::Tree(part) => as_file(part),
+        _ => unreachable!(),
+    }
+}
+
+fn as_file(part: TreePart<'_>) -> Declarations
+    requires { (is : PlainDeclarations) × (plain_tree_part part ≡ AFile is) }
+    ensures { AFile (plain_declarations result) ≡ plain_tree_part part.entry }
+{
+    match part {
+        TreePart::File(declarations) => declarations,
         _ => unreachable!(),
     }
 }

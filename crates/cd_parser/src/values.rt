@@ -4,15 +4,15 @@ ghost use Rattle.cd_program.specs.PlainExpr.{plain};
 ghost use Rattle.cd_grammar.specs.ProgramActions as actions;
 ghost use Rattle.cd_parser.specs.PlainParts.{plain_part};
 
+use crate::expr_part::expr_part;
 use crate::part::Part;
 use crate::program_taken::{expr_fields_of, expr_of, items_of};
-use crate::rows::{joined, row_of};
 use crate::taken::token_of;
-use crate::tree_part::expr_part;
-use crate::words::{characters_of, name_of};
 use cd_program::expr::{Expr, ExprKind, FieldExpr, Item};
 use cd_syntax::constant::Constant;
 use cd_syntax::tokens::Span;
+use cd_tree_actions::rows::{joined, row_of};
+use cd_tree_actions::words::{characters_of, name_of};
 use std::alloc::{AllocError, Global};
 
 /// Characters as items.

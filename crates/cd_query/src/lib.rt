@@ -1,2 +1,6 @@
-//! What selects and paths stand for, as definitions alone.
+//! The expressions that selects and the steps of paths stand for.
 #![tactic(auto)]
+
+pub mod parts;
+mod patterns;
+pub mod queries;

@@ -1,8 +1,8 @@
 use Rattle.std.proofs.Common.{◌≡◌, [], map, reverse, length}
 use Rattle.cd_program.specs.PlainExpr.{plain}
 use Rattle.cd_query.specs.Core.{path}
-use Rattle.cd_parser.specs.PlainParts.{plain_step}
-use Rattle.cd_parser.specs.Queries.{led}
+use Rattle.cd_query.specs.PlainParts.{plain_step}
+use Rattle.cd_parser.specs.Paths.{led}
 use Rattle.cd_parser.proofs.paths.all_steps.Given as goal
 
 -- the steps that are left lead where all lead

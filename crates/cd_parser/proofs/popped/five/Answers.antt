@@ -13,6 +13,6 @@ returns c =
     let last-a = before _ _ _ _ _ last-b c.take_part-a.ensures in
     let whole : c.len.result ≡ length c.args.stack.now.items = c.len.ensures ∙ c.args.stack.now.ok.0 in
     let count : length c.args.stack.now.items - c.args.at ≡ 5 = omega (arith, whole, c.if-len-at-ne5.false) in
-    IfOk-weaker c.of_five.result _ _ (λ part is.
+    IfOk-weaker c.make_of_five.result _ _ (λ part is.
     last_made (Some (makes.Five c.args.make)) c.args.here c.args.at _ _ part _ last-a c.requires count is)
-    c.of_five.ensures
+    c.make_of_five.ensures

@@ -12,6 +12,6 @@ returns c =
     let last-a = before _ _ _ _ _ last-b c.take_part-a.ensures in
     let whole : c.len.result ≡ length c.args.stack.now.items = c.len.ensures ∙ c.args.stack.now.ok.0 in
     let count : length c.args.stack.now.items - c.args.at ≡ 4 = omega (arith, whole, c.if-len-at-ne4.false) in
-    IfOk-weaker c.of_four.result _ _ (λ part is.
+    IfOk-weaker c.make_of_four.result _ _ (λ part is.
     last_made (Some (makes.Four c.args.make)) c.args.here c.args.at _ _ part _ last-a c.requires count is)
-    c.of_four.ensures
+    c.make_of_four.ensures

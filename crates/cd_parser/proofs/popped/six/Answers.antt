@@ -14,6 +14,6 @@ returns c =
     let last-a = before _ _ _ _ _ last-b c.take_part-a.ensures in
     let whole : c.len.result ≡ length c.args.stack.now.items = c.len.ensures ∙ c.args.stack.now.ok.0 in
     let count : length c.args.stack.now.items - c.args.at ≡ 6 = omega (arith, whole, c.if-len-at-ne6.false) in
-    IfOk-weaker c.of_six.result _ _ (λ part is.
+    IfOk-weaker c.make_of_six.result _ _ (λ part is.
     last_made (Some (makes.Six c.args.make)) c.args.here c.args.at _ _ part _ last-a c.requires count is)
-    c.of_six.ensures
+    c.make_of_six.ensures

@@ -1,0 +1,2 @@
+mod Letters
+pub mod SameMakes

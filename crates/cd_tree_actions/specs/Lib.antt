@@ -1,0 +1,4 @@
+pub mod PlainTreeParts
+pub mod TreeMakes
+pub mod OfTypes
+pub mod Inner
