@@ -9,8 +9,8 @@ use Rattle.cd_syntax.specs.declared.sign.Sign.{Sign as ASign}
 use Rattle.cd_syntax.specs.declared.tokens.Token.{Token}
 use Rattle.cd_syntax.specs.declared.tokens.TokenKind.{TokenKind}
 use Rattle.cd_syntax.specs.declared.tokens.TokenKind.TheVariants.{Word, Int, Chars, Text, Atom, Sign}
-use Rattle.cd_syntax.specs.declared.tokens.LexError.{LexError}
-use Rattle.cd_syntax.specs.declared.tokens.LexError.TheVariants.{BadChar, OpenText, OpenComment, TooWide}
+use Rattle.cd_syntax.specs.declared.fault.TextFault.{TextFault}
+use Rattle.cd_syntax.specs.declared.fault.TextFault.TheVariants.{BadChar, OpenText, OpenComment, TooWide}
 use Rattle.cd_syntax.specs.Integer.{LEAST, GREATEST, IsInteger}
 use Rattle.cd_syntax.specs.Name.{begins_word}
 use Rattle.cd_syntax.specs.Numerals.{begins_number, begins_negative}
@@ -35,7 +35,7 @@ use Rattle.cd_lex.proofs.DecidingQuotes.{AfterQuote, closed, broken, unended, af
 data Prefix (joined : Bool) (at : ℕ) (text : List ℕ) : Type 0 where
   falls_away : (rest : List ℕ) → IsDroppedTo text rest → Prefix joined at text
   stands : (kind : TokenKind) (rest : List ℕ) → IsTokenTo joined text kind rest → Prefix joined at text
-  is_fault : (fault : LexError) → HasFaultHere joined at text fault → Prefix joined at text
+  is_fault : (fault : TextFault) → HasFaultHere joined at text fault → Prefix joined at text
 
 -- a number fits 128 bits, or not
 integer_or : (n : ℤ) → IsInteger n ⊎ (IsInteger n → ⊥)
@@ -178,7 +178,7 @@ prefix_decided joined at c rest = elim (cases_Bool (begins_pair 40 42 (c ∷ res
 
 -- tokens, or a first fault
 abbrev pub Read : Bool → ℕ → List ℕ → Type 0
-Read joined at text = ((list : List Token) × Lexes joined at text list) ⊎ ((fault : LexError) × HasFirstFault joined at text fault)
+Read joined at text = ((list : List Token) × Lexes joined at text list) ⊎ ((fault : TextFault) × HasFirstFault joined at text fault)
 
 -- what is left after a prefix is read
 reads_on : (n : ℕ) (joined : Bool) (at : ℕ) (text : List ℕ) → length text ≤ suc n → ((joined : Bool) (at : ℕ) (rest : List ℕ) → length rest ≤ n → Read joined at rest)

@@ -10,7 +10,7 @@ use Rattle.cd_syntax.specs.Numerals.{begins_number, begins_negative}
 use Rattle.cd_syntax.specs.declared.sign.Sign.{Sign as ASign}
 use Rattle.cd_syntax.specs.declared.sign.Sign.TheVariants as sign
 use Rattle.cd_syntax.specs.declared.tokens.TokenKind.TheVariants.{Chars, Text, Sign}
-use Rattle.cd_syntax.specs.declared.tokens.LexError.TheVariants.{BadChar, OpenText, OpenComment}
+use Rattle.cd_syntax.specs.declared.fault.TextFault.TheVariants.{BadChar, OpenText, OpenComment}
 use Rattle.cd_syntax.specs.Signs.{characters, BeginsWith, IsLongest}
 use Rattle.cd_syntax.specs.Comments.{begins_pair, Closes, IsComment, comment}
 use Rattle.cd_syntax.specs.Tokens.{bytes}

@@ -13,8 +13,8 @@ use Rattle.cd_syntax.specs.declared.sign.Sign.TheVariants as sign
 use Rattle.cd_syntax.specs.declared.tokens.Token.{Token}
 use Rattle.cd_syntax.specs.declared.tokens.TokenKind.{TokenKind}
 use Rattle.cd_syntax.specs.declared.tokens.TokenKind.TheVariants.{Word, Int, Chars, Text, Atom, Sign}
-use Rattle.cd_syntax.specs.declared.tokens.LexError.{LexError}
-use Rattle.cd_syntax.specs.declared.tokens.LexError.TheVariants.{BadChar, OpenText, OpenComment, TooWide}
+use Rattle.cd_syntax.specs.declared.fault.TextFault.{TextFault}
+use Rattle.cd_syntax.specs.declared.fault.TextFault.TheVariants.{BadChar, OpenText, OpenComment, TooWide}
 use Rattle.cd_syntax.specs.Integer.{IsInteger}
 use Rattle.cd_syntax.specs.Name.{begins_word, goes_on_word, is_word, IsLabel}
 use Rattle.cd_syntax.specs.Digits.{begins_hexadecimal}
@@ -42,7 +42,7 @@ abbrev pub State : Type 0
 State = Bool × ℕ × List ℕ
 
 abbrev pub Result : Type 0
-Result = List Token ⊎ LexError
+Result = List Token ⊎ TextFault
 
 abbrev pub Step : Type 0
 Step = Outcome State Result (List Token)
@@ -75,7 +75,7 @@ drop_step at written rest = More (false, at + bytes written, rest) []
 abbrev pub token_step : ℕ → (written rest : List ℕ) → TokenKind → Step
 token_step at written rest kind = More (joins kind, at + bytes written, rest) (token_at at written kind ∷ [])
 
-abbrev pub fault_step : LexError → Step
+abbrev pub fault_step : TextFault → Step
 fault_step fault = Stop (inr fault)
 
 abbrev pub comment_step : ℕ → List ℕ → Option ℕ → Step
@@ -481,7 +481,7 @@ open_comment_prefix joined at inside none = by (length_from (within 0) inside) r
         absurd (none (40 ∷ 42 ∷ take n inside) (drop n inside) (ap (λ t. 40 ∷ 42 ∷ t) (sym (take-append-drop n inside))) (comments.comment (take n inside) closes.1))
 
 -- each fault
-pub fault_prefix : (joined : Bool) (at : ℕ) (text : List ℕ) (fault : LexError) → HasFaultHere joined at text fault → PrefixStep (joined, at, text) (fault_step fault)
+pub fault_prefix : (joined : Bool) (at : ℕ) (text : List ℕ) (fault : TextFault) → HasFaultHere joined at text fault → PrefixStep (joined, at, text) (fault_step fault)
 fault_prefix joined at _ _ (faults.character c rest nothing no_number no_sign no_atom) = character_prefix joined at c rest nothing no_number no_sign no_atom
 fault_prefix joined at _ _ (faults.escape q written means rest is quotes breaks) =
     let double = which_quote q is in

@@ -1,19 +1,19 @@
 -- Tokens are read one after the other, up to the byte at which the text ends.
-use Rattle.std.proofs.Common.{◌≡◌, ℕ, ◌+◌, ◌-◌, ◌≤◌, Bool, false, List, [], ◌∷◌, ◌++◌, sym, ap, subst, ◌∙◌, inl, inr, ◌⊎◌, arith, length, append_assoc, append-nil}
+use Rattle.std.proofs.Common.{◌≡◌, ℕ, ◌+◌, ◌-◌, ◌≤◌, Bool, false, List, [], ◌∷◌, ◌++◌, sym, ap, subst, ◌∙◌, arith, length, append_assoc, append-nil}
 use Rattle.std.proofs.lemmas.List.{length-append}
 use Rattle.cd_syntax.specs.declared.tokens.Span.{Span}
 use Rattle.cd_syntax.specs.declared.tokens.Token.{Token}
 use Rattle.cd_syntax.specs.declared.tokens.TokenKind.{TokenKind}
-use Rattle.cd_syntax.specs.declared.tokens.LexError.{LexError}
-use Rattle.cd_syntax.specs.declared.tokens.LexError.TheVariants.{Memory}
+use Rattle.cd_syntax.specs.declared.fault.TextError.{TextError}
+use Rattle.cd_syntax.proofs.TextErrors.{if_fault_weaker}
 use Rattle.cd_syntax.specs.Tokens.{bytes, joins, token_at, Lexes, IsLexemeOf}
 use Rattle.cd_syntax.specs.Tokens as tokens
-use Rattle.cd_syntax.specs.Faults.{HasFirstFault}
+use Rattle.cd_syntax.specs.Faults.{IfFault, HasFaultHere, HasFirstFault}
 use Rattle.cd_syntax.specs.Faults as faults
 use Rattle.cd_lex.specs.declared.lexer.Kind.{Kind}
 use Rattle.cd_lex.specs.declared.lexer.Lexer.{Lexer}
 use Rattle.cd_lex.specs.Lexing.{IsToken, LexesOn, FailsOn, with_characters, token_with, IsSoundKind}
-use Rattle.cd_lex.specs.Inner.Standing.{IsDroppedTo, IsTokenTo, IsErrorHere}
+use Rattle.cd_lex.specs.Inner.Standing.{IsDroppedTo, IsTokenTo}
 use Rattle.cd_lex.specs.Inner.Reading.{LexesUpTo, FailsUpTo, IsReadTo, IsTokenRead, HasRead}
 use Rattle.cd_lex.proofs.PiecePrefixes.{bytes_append}
 
@@ -95,10 +95,11 @@ module _ (end : ℕ) (joined : Bool) (text : List ℕ) where
         writes_sound now is.written new kind is.writes,
       )
 
-  pub faulty : (now : Bool) (left : List ℕ) (at : ℕ) (fault : LexError) → IsReadTo end joined text [] now left → at ≡ end - bytes left → IsErrorHere now at left fault
-      → (fault ≡ Memory) ⊎ FailsUpTo end joined text fault
-  faulty now left at fault so at_is (inl memory) = inl memory
-  faulty now left at fault so at_is (inr breaks) = inr (so.fails fault (subst (λ at. HasFirstFault now at left fault) at_is (faults.here now at left fault breaks)))
+  pub faulty : (now : Bool) (left : List ℕ) (at : ℕ) (error : TextError) → IsReadTo end joined text [] now left → at ≡ end - bytes left
+      → IfFault error (HasFaultHere now at left) → IfFault error (FailsUpTo end joined text)
+  faulty now left at error so at_is is =
+      if_fault_weaker error (HasFaultHere now at left) (FailsUpTo end joined text)
+      (λ fault here. so.fails fault (subst (λ at. HasFirstFault now at left fault) at_is (faults.here now at left fault here))) is
 
   -- the same of a text whose first character was taken off
   module _ (now : Bool) (left prefix : List ℕ) (so : IsReadTo end joined text [] now left) (same : left ≡ prefix) where
@@ -112,8 +113,8 @@ module _ (end : ℕ) (joined : Bool) (text : List ℕ) where
     pub token_fits : (new : List ℕ) (kind : TokenKind) → IsTokenTo now prefix kind new → bytes new ≤ end
     token_fits new kind is = (piece_ends end left is.written new so.fits (same ∙ is.is)).1
 
-    pub faulty_at : (at : ℕ) (fault : LexError) → at ≡ end - bytes left → IsErrorHere now at prefix fault → (fault ≡ Memory) ⊎ FailsUpTo end joined text fault
-    faulty_at at fault at_is breaks = faulty now left at fault so at_is (subst (λ text. IsErrorHere now at text fault) (sym same) breaks)
+    pub faulty_at : (at : ℕ) (error : TextError) → at ≡ end - bytes left → IfFault error (HasFaultHere now at prefix) → IfFault error (FailsUpTo end joined text)
+    faulty_at at error at_is is = faulty now left at error so at_is (subst (λ text. IfFault error (HasFaultHere now at text)) (sym same) is)
 
   pub ends : (now : Bool) (left : List ℕ) → IsReadTo end joined text [] now left → left ≡ [] → LexesUpTo end joined text []
   ends now left so none = so.lexes [] (subst (λ text. Lexes now (end - bytes left) text []) (sym none) (tokens.nothing now (end - bytes left)))
@@ -129,10 +130,9 @@ token_read text read read_then old new next so is pushed = record {
 pub all_read : (text : List ℕ) (read : List Token) (lexer : Lexer) → HasRead text read lexer → LexesOn lexer [] → Lexes false 0 text read
 all_read text read lexer so lexes = subst (Lexes false 0 text) (append-nil read) (so.lexes [] lexes)
 
-pub fault_read : (text : List ℕ) (read : List Token) (lexer : Lexer) (fault : LexError) → HasRead text read lexer → (fault ≡ Memory) ⊎ FailsOn lexer fault
-    → (fault ≡ Memory) ⊎ HasFirstFault false 0 text fault
-fault_read text read lexer fault so (inl memory) = inl memory
-fault_read text read lexer fault so (inr fails) = inr (so.fails fault fails)
+pub fault_read : (text : List ℕ) (read : List Token) (lexer : Lexer) (error : TextError) → HasRead text read lexer → IfFault error (FailsOn lexer)
+    → IfFault error (HasFirstFault false 0 text)
+fault_read text read lexer error so is = if_fault_weaker error (FailsOn lexer) (HasFirstFault false 0 text) so.fails is
 
 -- a lexer that has taken a token off
 pub token_taken : (old new : Lexer) (is : Kind) (span : Span) → IsTokenRead old.end old.joined old.cursor (token_with is span new.buffer) new.cursor → new.end ≡ old.end

@@ -1,5 +1,5 @@
 -- The tokens at the start of a text that begin with a word or a digit, and atoms.
-use Rattle.std.proofs.Common.{◌≡◌, ◌≢◌, ℕ, ℤ, pos, neg_ℤ, ◌<◌, ◌^◌, ◌==◌, inr, Bool, true, false, true≢false, List, [], ◌∷◌, ◌++◌, refl, sym, ap, subst, ◌∙◌, length, drop, arith, bytes_eq}
+use Rattle.std.proofs.Common.{◌≡◌, ◌≢◌, ℕ, ℤ, pos, neg_ℤ, ◌<◌, ◌^◌, ◌==◌, Bool, true, false, true≢false, List, [], ◌∷◌, ◌++◌, refl, sym, ap, subst, ◌∙◌, length, drop, arith, bytes_eq}
 use Rattle.std.specs.Prelude.{IsTrue, MatchBool}
 use Rattle.std.specs.Str.{chars, IsUtf8}
 use Rattle.std.proofs.Math.Utf8.{encodes}
@@ -13,7 +13,7 @@ use mir.Val.{to_z, of_z}
 use Rattle.cd_syntax.specs.declared.sign.Sign.{Sign}
 use Rattle.cd_syntax.specs.declared.sign.Sign.TheVariants as sign
 use Rattle.cd_syntax.specs.declared.tokens.TokenKind.TheVariants.{Word, Int, Atom}
-use Rattle.cd_syntax.specs.declared.tokens.LexError.TheVariants.{BadChar, TooWide}
+use Rattle.cd_syntax.specs.declared.fault.TextFault.TheVariants.{BadChar, TooWide}
 use Rattle.cd_syntax.specs.Integer.{IsInteger}
 use Rattle.cd_syntax.specs.Name.{begins_word, goes_on_word, is_word, IsLabel}
 use Rattle.cd_syntax.specs.Digits.{decimal_value}
@@ -24,7 +24,7 @@ use Rattle.cd_syntax.specs.Faults.{HasFaultHere, character as breaks_character, 
 use Rattle.cd_lex.specs.Inner.Prefixes.{BeginsWithNoWord, IsWordTo, first_word, after_word, first_digits, after_digits}
 use Rattle.cd_lex.specs.Inner.Number.{with_sign}
 use Rattle.cd_lex.specs.Inner.Numerals.{first_number, number_at, after_number}
-use Rattle.cd_lex.specs.Inner.Standing.{IsTokenTo, IsErrorHere}
+use Rattle.cd_lex.specs.Inner.Standing.{IsTokenTo}
 use Rattle.cd_lex.proofs.Wording.{word_stands, taken_first, taken_none, taken_and_rest, word_taken}
 use Rattle.cd_lex.proofs.Numerals.{number_stands, numeral_length, digit_begins, decimal_at}
 
@@ -140,9 +140,9 @@ small_number joined text c rest new m n at digit value after small is =
     (number.0 joined refl)
 
 pub numeral_fault : (negative : Bool) (at : ℕ) (text : List ℕ) → begins_number text ≡ true → (IsInteger (with_sign negative (number_at text)) → ⊥)
-    → ((joined : Bool) → negative ≡ false → IsErrorHere joined at text (TooWide at)) × (negative ≡ true → IsErrorHere false at (45 ∷ text) (TooWide at))
-numeral_fault true at text begins wide = (λ joined no. absurd (true≢false no), λ yes. inr (negative_fault at text begins wide))
-numeral_fault false at text begins wide = (λ joined no. inr (number_fault joined at text begins wide), λ yes. absurd (true≢false (sym yes)))
+    → ((joined : Bool) → negative ≡ false → HasFaultHere joined at text (TooWide at)) × (negative ≡ true → HasFaultHere false at (45 ∷ text) (TooWide at))
+numeral_fault true at text begins wide = (λ joined no. absurd (true≢false no), λ yes. negative_fault at text begins wide)
+numeral_fault false at text begins wide = (λ joined no. number_fault joined at text begins wide, λ yes. absurd (true≢false (sym yes)))
 
 -- an atom stands after its backquote
 pub atom_token : (joined : Bool) (text word new : List ℕ) → IsWordTo text word new

@@ -1,18 +1,17 @@
 -- What a lexer gives, one token after the other.
-use Rattle.std.specs.Prelude.{◌≡◌, ◌<◌, ◌-◌, ◌⊎◌, ℕ, Bool, List, [], ◌∷◌, length, IsTrue}
+use Rattle.std.specs.Prelude.{◌<◌, ◌-◌, ℕ, Bool, List, [], ◌∷◌, length, IsTrue}
 use Rattle.cd_syntax.specs.declared.tokens.Span.{Span}
 use Rattle.cd_syntax.specs.declared.tokens.Token.{Token}
 use Rattle.cd_syntax.specs.declared.tokens.TokenKind.{TokenKind}
 use Rattle.cd_syntax.specs.declared.tokens.TokenKind.TheVariants as token
-use Rattle.cd_syntax.specs.declared.tokens.LexError.{LexError}
-use Rattle.cd_syntax.specs.declared.tokens.LexError.TheVariants.{Memory}
+use Rattle.cd_syntax.specs.declared.fault.TextFault.{TextFault}
 use Rattle.cd_syntax.specs.Name.{Name, IsLabel, is_word}
 use Rattle.cd_syntax.specs.Tokens.{Lexes, bytes}
 use Rattle.cd_syntax.specs.Faults.{HasFirstFault}
 use Rattle.cd_lex.specs.declared.lexer.Kind.{Kind}
 use Rattle.cd_lex.specs.declared.lexer.Kind.TheVariants as kind
 use Rattle.cd_lex.specs.declared.lexer.Lexeme.{Lexeme}
-use Rattle.cd_lex.specs.declared.lexer.Lexeme.TheVariants.{Token as AToken, End, Fault}
+use Rattle.cd_lex.specs.declared.lexer.Lexeme.TheVariants.{Token as AToken, End}
 use Rattle.cd_lex.specs.declared.lexer.Lexer.{Lexer}
 
 -- the characters that are left, the byte at which they begin, and whether what stands there is
@@ -34,7 +33,7 @@ spelled lexer = lexer.buffer
 abbrev pub LexesOn : Lexer → List Token → Type 0
 LexesOn lexer tokens = Lexes (is_joined lexer) (place lexer) (left lexer) tokens
 
-abbrev pub FailsOn : Lexer → LexError → Type 0
+abbrev pub FailsOn : Lexer → TextFault → Type 0
 FailsOn lexer fault = HasFirstFault (is_joined lexer) (place lexer) (left lexer) fault
 
 -- a token of this kind with these characters
@@ -58,11 +57,10 @@ IsSoundKind _ = Unit {0}
 -- the token stands before what is left now
 pub record IsToken (old new : Lexer) (next : Token) : Type 0 where
   pub lexes : (more : List Token) → LexesOn new more → LexesOn old (next ∷ more)
-  pub fails : (fault : LexError) → FailsOn new fault → FailsOn old fault
+  pub fails : (fault : TextFault) → FailsOn new fault → FailsOn old fault
   pub shorter : length (left new) < length (left old)
   pub sound : IsSoundKind next.kind
 
 abbrev pub IsNext : (old : Lexer) → Lexeme → (new : Lexer) → Type 0
 IsNext old (AToken is span) new = IsToken old new (token_with is span (spelled new))
 IsNext old End new = LexesOn old []
-IsNext old (Fault fault) new = (fault ≡ Memory) ⊎ FailsOn old fault

@@ -5,8 +5,9 @@ ghost use Rattle.cd_syntax.specs.Tokens.{bytes as bytes_of};
 use crate::buffer::Buffer;
 use crate::cursor::Cursor;
 use crate::next_token::{joins, read_lexeme, read_simple};
+use cd_syntax::fault::TextError;
 use cd_syntax::sign::Sign;
-use cd_syntax::tokens::{LexError, Span};
+use cd_syntax::tokens::Span;
 use std::alloc::Global;
 
 /// What a token is, without its characters.
@@ -33,8 +34,6 @@ pub enum Lexeme {
     Token(Kind, Span),
     /// The end of the text.
     End,
-    /// The first fault of the text, or want of memory.
-    Fault(LexError),
 }
 
 /// What is left of a text, and the characters of the token that was read last.
@@ -48,9 +47,11 @@ pub struct Lexer<'t> {
 }
 
 impl<'t> Lexer<'t> {
-    ghost use Rattle.std.specs.Prelude.{◌≡◌, false};
+    ghost use Rattle.std.specs.Prelude.{◌≡◌, false, IfOk, IfErr};
     ghost use Rattle.std.specs.Str.{chars};
-    ghost use Rattle.cd_lex.specs.Lexing.{left, place, is_joined, spelled as spelled_by, IsNext};
+    ghost use Rattle.cd_syntax.specs.Faults.{IfFault};
+    ghost use Rattle.cd_lex.specs.Lexing.{left, place, is_joined, spelled as spelled_by};
+    ghost use Rattle.cd_lex.specs.Lexing.{IsNext, FailsOn};
 
     /// The start of a text.
     pub fn new(alloc: Global, text: &'t str) -> Lexer<'t>
@@ -68,9 +69,14 @@ impl<'t> Lexer<'t> {
         }
     }
 
-    /// What stands next, which is taken off the text. After a fault nothing is promised.
-    pub fn next(&mut self) -> Lexeme
-        ensures { IsNext self.old result self.new }
+    /// What stands next, which is taken off the text.
+    ///
+    /// # Errors
+    ///
+    /// The first fault of the text, or want of memory. After it nothing is promised.
+    pub fn next(&mut self) -> Result<Lexeme, TextError>
+        ensures next { IfOk result (λ lexeme. IsNext self.old lexeme self.new) }
+        ensures fault { IfErr result (λ error. IfFault error (FailsOn self.old)) }
     {
         let mut cursor = self.cursor.again();
         let Some((kind, span)) = read_simple(&mut cursor, &mut self.buffer, self.joined, self.end)
@@ -79,21 +85,22 @@ impl<'t> Lexer<'t> {
         };
         self.cursor = cursor;
         self.joined = joins(kind);
-        Lexeme::Token(kind, span)
+        Ok(Lexeme::Token(kind, span))
     }
 
     // The same, for any token.
     #[inline(never)]
-    fn next_of_any(&mut self) -> Lexeme
-        ensures { IsNext self.old result self.new }
+    fn next_of_any(&mut self) -> Result<Lexeme, TextError>
+        ensures next { IfOk result (λ lexeme. IsNext self.old lexeme self.new) }
+        ensures fault { IfErr result (λ error. IfFault error (FailsOn self.old)) }
     {
         let mut cursor = self.cursor.again();
-        let lexeme = read_lexeme(&mut cursor, &mut self.buffer, self.joined, self.end);
+        let lexeme = read_lexeme(&mut cursor, &mut self.buffer, self.joined, self.end)?;
         if let Lexeme::Token(kind, _) = lexeme {
             self.cursor = cursor;
             self.joined = joins(kind);
         }
-        lexeme
+        Ok(lexeme)
     }
 
     /// The characters of the token that was read last: the word, the name of the atom, or what

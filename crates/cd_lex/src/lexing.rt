@@ -1,13 +1,13 @@
-ghost use Rattle.std.specs.Prelude.{◌≡◌, false, ◌⊎◌, [], ◌∷◌, ◌++◌, IfOk, IfErr, OnOk};
+ghost use Rattle.std.specs.Prelude.{◌≡◌, false, [], ◌∷◌, ◌++◌, IfOk, IfErr, OnOk};
 ghost use Rattle.std.specs.Str.{chars};
 ghost use Rattle.cd_syntax.specs.Tokens.{Lexes};
-ghost use Rattle.cd_syntax.specs.Faults.{HasFirstFault};
-ghost use Rattle.cd_syntax.specs.declared.tokens.LexError.TheVariants.{Memory};
+ghost use Rattle.cd_syntax.specs.Faults.{IfFault, HasFirstFault};
 ghost use Rattle.cd_lex.specs.Lexing.{with_characters};
 
 use crate::lexer::{Kind, Lexeme, Lexer};
+use cd_syntax::fault::TextError;
 use cd_syntax::name::Name;
-use cd_syntax::tokens::{LexError, Token, TokenKind};
+use cd_syntax::tokens::{Token, TokenKind};
 use std::alloc::{AllocError, Global};
 
 /// The tokens of a text, in their order, each with its place.
@@ -15,21 +15,20 @@ use std::alloc::{AllocError, Global};
 /// # Errors
 ///
 /// The first fault of the text, or want of memory.
-pub fn lex(alloc: Global, text: &str) -> Result<Vec<Token>, LexError>
+pub fn lex(alloc: Global, text: &str) -> Result<Vec<Token>, TextError>
     ensures tokens { IfOk result (λ tokens. Lexes false 0 (chars text.now) tokens.items) }
     ensures fault { IfErr result
-        (λ error. (error ≡ Memory) ⊎ HasFirstFault false 0 (chars text.now) error) }
+        (λ error. IfFault error (HasFirstFault false 0 (chars text.now))) }
 {
     let mut lexer = Lexer::new(alloc, text);
     let mut tokens = Vec::new(alloc);
     loop {
-        match lexer.next() {
+        match lexer.next()? {
             Lexeme::Token(kind, span) => {
                 let kind = named(alloc, kind, lexer.spelled())?;
                 add(&mut tokens, Token { kind, span })?;
             }
             Lexeme::End => return Ok(tokens),
-            Lexeme::Fault(error) => return Err(error),
         }
     }
 }

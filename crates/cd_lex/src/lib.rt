@@ -15,6 +15,7 @@ mod run;
 mod signs;
 mod word;
 
-pub use cd_syntax::tokens::{LexError, Span, Token, TokenKind};
+pub use cd_syntax::fault::{TextError, TextFault};
+pub use cd_syntax::tokens::{Span, Token, TokenKind};
 pub use lexer::{Kind, Lexeme, Lexer};
 pub use lexing::lex;

@@ -1,8 +1,10 @@
-ghost use Rattle.std.specs.Prelude.{◌≡◌, ◌≤◌, ℕ, Bool, List, [], length, IfSome, MatchOption};
+ghost use Rattle.std.specs.Prelude.{◌≡◌, ◌≤◌, ℕ, Bool, List, [], length};
+ghost use Rattle.std.specs.Prelude.{IfSome, MatchOption, IfOk, IfErr};
+ghost use Rattle.cd_syntax.specs.Faults.{IfFault};
 ghost use Rattle.cd_syntax.specs.Tokens.{joins as joins_of, bytes as bytes_of};
 ghost use Rattle.cd_lex.specs.Lexing.{with_characters, token_with};
 ghost use Rattle.cd_lex.specs.Inner.Prefixes.{BeginsWithNoBlank, BeginsWithNoWord};
-ghost use Rattle.cd_lex.specs.Inner.Reading.{IsLexeme, IsReadTo, IsTokenRead};
+ghost use Rattle.cd_lex.specs.Inner.Reading.{IsLexeme, IsReadTo, IsTokenRead, FailsUpTo};
 ghost use Rattle.cd_lex.specs.Inner.Standing.{BeginsWithNoSign, IsTokenTo};
 
 use crate::buffer::Buffer;
@@ -14,6 +16,7 @@ use crate::quoted::take_plain;
 use crate::run::Run;
 use crate::signs::{closes, take_sign};
 use crate::word::begins_word;
+use cd_syntax::fault::TextError;
 use cd_syntax::tokens::Span;
 
 /// Takes the next token off a text, and the blanks before it, if it is a word, a decimal number of
@@ -44,9 +47,11 @@ pub(crate) fn read_lexeme<'t>(
     buffer: &mut Buffer<'t>,
     joined: bool,
     end: usize,
-) -> Lexeme
+) -> Result<Lexeme, TextError>
     requires { bytes_of cursor.old ≤ end }
-    ensures { IsLexeme end joined cursor.old result cursor.new buffer.new }
+    ensures lexeme { IfOk result
+        (λ lexeme. IsLexeme end joined cursor.old lexeme cursor.new buffer.new) }
+    ensures fault { IfErr result (λ error. IfFault error (FailsUpTo end joined cursor.old)) }
 {
     let mut joined = joined;
     loop {
@@ -54,20 +59,16 @@ pub(crate) fn read_lexeme<'t>(
         let from = end - cursor.bytes();
         if let Some(kind) = take_simple(cursor, buffer) {
             let to = end - cursor.bytes();
-            return Lexeme::Token(kind, Span { from, to });
+            return Ok(Lexeme::Token(kind, Span { from, to }));
         }
         let Some(c) = cursor.take() else {
-            return Lexeme::End;
+            return Ok(Lexeme::End);
         };
-        let piece = match prefix(cursor, buffer, joined, c, from, end) {
-            Ok(piece) => piece,
-            Err(error) => return Lexeme::Fault(error),
-        };
-        match piece {
+        match prefix(cursor, buffer, joined, c, from, end)? {
             Piece::Dropped => joined = false,
             Piece::Token(kind) => {
                 let to = end - cursor.bytes();
-                return Lexeme::Token(kind, Span { from, to });
+                return Ok(Lexeme::Token(kind, Span { from, to }));
             }
         }
     }

@@ -3,8 +3,8 @@ ghost use Rattle.std.specs.Prelude.{IfOk, IfErr};
 ghost use Rattle.cd_syntax.specs.Name.{begins_word};
 ghost use Rattle.cd_syntax.specs.Tokens.{is_blank, bytes as bytes_of};
 ghost use Rattle.cd_syntax.specs.Numerals.{begins_number as begins_number_of};
-ghost use Rattle.cd_syntax.specs.Faults.{is_other};
-ghost use Rattle.cd_lex.specs.Inner.Standing.{BeginsWithNoSign, Stands, IsErrorHere};
+ghost use Rattle.cd_syntax.specs.Faults.{is_other, IfFault, HasFaultHere};
+ghost use Rattle.cd_lex.specs.Inner.Standing.{BeginsWithNoSign, Stands};
 ghost use Rattle.cd_lex.specs.declared.lexer.Kind.TheVariants.{Text, Chars};
 
 use crate::buffer::Buffer;
@@ -15,8 +15,8 @@ use crate::number::{begins_number, read_number};
 use crate::quoted::{Quoted, read_quoted};
 use crate::signs::after_minus;
 use crate::word::{is_underscore, take_word};
+use cd_syntax::fault::{TextError, TextFault};
 use cd_syntax::sign::Sign;
-use cd_syntax::tokens::LexError;
 
 /// What stands at the start of a text.
 #[derive(Clone, Copy)]
@@ -38,7 +38,7 @@ pub(crate) fn prefix<'t>(
     c: char,
     at: usize,
     end: usize,
-) -> Result<Piece, LexError>
+) -> Result<Piece, TextError>
     requires blank { is_blank c ≡ false }
     requires word { begins_word c ≡ false }
     requires sign { BeginsWithNoSign (c ∷ cursor.old) }
@@ -46,7 +46,8 @@ pub(crate) fn prefix<'t>(
     requires fits { bytes_of (c ∷ cursor.old) ≤ end }
     ensures piece { IfOk result
         (λ piece. Stands joined (c ∷ cursor.old) piece cursor.new buffer.new) }
-    ensures fault { IfErr result (λ error. IsErrorHere joined at (c ∷ cursor.old) error) }
+    ensures fault { IfErr result
+        (λ error. IfFault error (HasFaultHere joined at (c ∷ cursor.old))) }
 {
     match c {
         _ if begins_number(cursor, c) => number(cursor, false, c, at),
@@ -54,24 +55,25 @@ pub(crate) fn prefix<'t>(
         '`' => atom(cursor, buffer, at),
         '(' => parenthesis(cursor, at),
         '-' => minus(cursor, joined, at),
-        _ => Err(no_token(cursor, c, at)),
+        _ => Err(TextError::Fault(no_token(cursor, c, at))),
     }
 }
 
 // The number that begins with this character, after a `-` or without one.
-fn number(cursor: &mut Cursor<'_>, negative: bool, c: char, at: usize) -> Result<Piece, LexError>
+fn number(cursor: &mut Cursor<'_>, negative: bool, c: char, at: usize) -> Result<Piece, TextError>
     requires { begins_number_of (c ∷ cursor.old) ≡ true }
     ensures piece { IfOk result (λ piece. (characters : List ℕ)
         → ((joined : Bool) → negative ≡ false
         → Stands joined (c ∷ cursor.old) piece cursor.new characters)
         × (negative ≡ true → Stands false (45 ∷ c ∷ cursor.old) piece cursor.new characters)) }
     ensures fault { IfErr result (λ error.
-        ((joined : Bool) → negative ≡ false → IsErrorHere joined at (c ∷ cursor.old) error)
-        × (negative ≡ true → IsErrorHere false at (45 ∷ c ∷ cursor.old) error)) }
+        ((joined : Bool) → negative ≡ false
+        → IfFault error (HasFaultHere joined at (c ∷ cursor.old)))
+        × (negative ≡ true → IfFault error (HasFaultHere false at (45 ∷ c ∷ cursor.old)))) }
 {
     match read_number(cursor, negative, c) {
         Some(value) => Ok(Piece::Token(Kind::Int(value))),
-        None => Err(LexError::TooWide(at)),
+        None => Err(TextError::Fault(TextFault::TooWide(at))),
     }
 }
 
@@ -82,19 +84,19 @@ fn quoted<'t>(
     quote: char,
     at: usize,
     end: usize,
-) -> Result<Piece, LexError>
+) -> Result<Piece, TextError>
     requires quote { (quote ≡ 34) ⊎ (quote ≡ 39) }
     requires at { at ≡ end - bytes_of (quote ∷ cursor.old) }
     requires fits { bytes_of (quote ∷ cursor.old) ≤ end }
     ensures piece { IfOk result (λ piece. (joined : Bool)
         → Stands joined (quote ∷ cursor.old) piece cursor.new buffer.new) }
     ensures fault { IfErr result
-        (λ error. (joined : Bool) → IsErrorHere joined at (quote ∷ cursor.old) error) }
+        (λ error. (joined : Bool) → IfFault error (HasFaultHere joined at (quote ∷ cursor.old))) }
 {
     match read_quoted(cursor, buffer, quote)? {
         Quoted::Closed => Ok(Piece::Token(quoted_kind(quote))),
-        Quoted::Breaks => Err(LexError::BadChar(end - cursor.bytes())),
-        Quoted::Ends => Err(LexError::OpenText(at)),
+        Quoted::Breaks => Err(TextError::Fault(TextFault::BadChar(end - cursor.bytes()))),
+        Quoted::Ends => Err(TextError::Fault(TextFault::OpenText(at))),
     }
 }
 
@@ -110,42 +112,43 @@ fn quoted_kind(quote: char) -> Kind
 }
 
 // The atom whose backquote was taken off before.
-fn atom<'t>(cursor: &mut Cursor<'t>, buffer: &mut Buffer<'t>, at: usize) -> Result<Piece, LexError>
+fn atom<'t>(cursor: &mut Cursor<'t>, buffer: &mut Buffer<'t>, at: usize) -> Result<Piece, TextError>
     ensures piece { IfOk result (λ piece. (joined : Bool)
         → Stands joined (96 ∷ cursor.old) piece cursor.new buffer.new) }
     ensures fault { IfErr result
-        (λ error. (joined : Bool) → IsErrorHere joined at (96 ∷ cursor.old) error) }
+        (λ error. (joined : Bool) → IfFault error (HasFaultHere joined at (96 ∷ cursor.old))) }
 {
     match take_word(cursor) {
         Some(word) if !is_underscore(word) => {
             buffer.set(word);
             Ok(Piece::Token(Kind::Atom))
         }
-        _ => Err(LexError::BadChar(at)),
+        _ => Err(TextError::Fault(TextFault::BadChar(at))),
     }
 }
 
 // What begins with a `(`.
-fn parenthesis(cursor: &mut Cursor<'_>, at: usize) -> Result<Piece, LexError>
+fn parenthesis(cursor: &mut Cursor<'_>, at: usize) -> Result<Piece, TextError>
     ensures piece { IfOk result (λ piece. (joined : Bool) (characters : List ℕ)
         → Stands joined (40 ∷ cursor.old) piece cursor.new characters) }
     ensures fault { IfErr result
-        (λ error. (joined : Bool) → IsErrorHere joined at (40 ∷ cursor.old) error) }
+        (λ error. (joined : Bool) → IfFault error (HasFaultHere joined at (40 ∷ cursor.old))) }
 {
     if !cursor.take_this('*') {
         return Ok(Piece::Token(Kind::Sign(Sign::OpenParenthesis)));
     }
     if !close_comment(cursor) {
-        return Err(LexError::OpenComment(at));
+        return Err(TextError::Fault(TextFault::OpenComment(at)));
     }
     Ok(Piece::Dropped)
 }
 
 // What begins with a `-`.
-fn minus(cursor: &mut Cursor<'_>, joined: bool, at: usize) -> Result<Piece, LexError>
+fn minus(cursor: &mut Cursor<'_>, joined: bool, at: usize) -> Result<Piece, TextError>
     ensures piece { IfOk result (λ piece. (characters : List ℕ)
         → Stands joined (45 ∷ cursor.old) piece cursor.new characters) }
-    ensures fault { IfErr result (λ error. IsErrorHere joined at (45 ∷ cursor.old) error) }
+    ensures fault { IfErr result
+        (λ error. IfFault error (HasFaultHere joined at (45 ∷ cursor.old))) }
 {
     if joined {
         return Ok(Piece::Token(Kind::Sign(after_minus(cursor))));
@@ -161,14 +164,14 @@ fn minus(cursor: &mut Cursor<'_>, joined: bool, at: usize) -> Result<Piece, LexE
 }
 
 // The fault of a character that begins no token.
-fn no_token(cursor: &Cursor<'_>, c: char, at: usize) -> LexError
+fn no_token(cursor: &Cursor<'_>, c: char, at: usize) -> TextFault
     requires other { is_other c ≡ true }
     requires number { begins_number_of (c ∷ cursor.now) ≡ false }
     requires backquote { c ≡ 96 → ⊥ }
     requires parenthesis { c ≡ 40 → ⊥ }
     requires minus { c ≡ 45 → ⊥ }
     requires sign { BeginsWithNoSign (c ∷ cursor.now) }
-    ensures { (joined : Bool) → IsErrorHere joined at (c ∷ cursor.now) result }
+    ensures { (joined : Bool) → HasFaultHere joined at (c ∷ cursor.now) result }
 {
-    LexError::BadChar(at)
+    TextFault::BadChar(at)
 }

@@ -1,16 +1,19 @@
 -- The reader goes on by one token.
 use Rattle.std.proofs.Common.{◌≡◌, ◌∙◌, ap, subst, sym, refl, ℕ, Bool, false, List, [], ◌∷◌, Option, None}
 use Rattle.std.specs.Prelude.{Result, Ok, Err, IfOk, IfErr, ◌<◌, length}
-use Rattle.std.proofs.Common.{◌⊎◌, inl, inr}
+use Rattle.std.proofs.Common.{inl, inr}
 use Rattle.std.specs.Str.{chars, IsUtf8}
 use Rattle.std.proofs.lemmas.Str.{encodes-chars}
 use Rattle.cd_syntax.specs.declared.tokens.Span.{Span}
 use Rattle.cd_syntax.specs.declared.tokens.Token.{Token}
-use Rattle.cd_syntax.specs.declared.tokens.LexError.{LexError}
-use Rattle.cd_syntax.specs.declared.tokens.LexError.TheVariants as lex
+use Rattle.cd_syntax.specs.declared.fault.TextError.{TextError}
+use Rattle.cd_syntax.specs.declared.fault.TextError.TheVariants.{Fault}
+use Rattle.cd_syntax.specs.declared.fault.TextFault.{TextFault}
+use Rattle.cd_syntax.specs.declared.fault.TextFault.TheVariants.{Syntax, TooDeep}
 use Rattle.cd_syntax.specs.Name.{Name}
 use Rattle.cd_syntax.specs.Tokens.{Lexes, bytes}
-use Rattle.cd_syntax.specs.Faults.{HasFirstFault}
+use Rattle.cd_syntax.specs.Faults.{IfFault, HasFirstFault}
+use Rattle.cd_syntax.proofs.TextErrors.{if_fault_weaker}
 use Rattle.cd_model.specs.Thing.{Thing}
 use Rattle.cd_documents.specs.Terminal.{terminal}
 use Rattle.cd_documents.specs.Machine as machine
@@ -18,7 +21,7 @@ use Rattle.cd_documents.specs.Machine.{State, state, start, step, step_on, and_t
 use Rattle.cd_documents.specs.Reading.{most_open, WritesValue, IsWrongText, IsTooDeepText}
 use Rattle.cd_documents.specs.DocumentFaults.{IsWrongDocument}
 use Rattle.cd_documents.proofs.Sounding.{derived}
-use Rattle.cd_documents.proofs.Faulting.{too_deep}
+use Rattle.cd_documents.proofs.Faulting.{too_deep as deep_document}
 use Rattle.cd_documents.proofs.Refusing.{wrong_document, unfinished_document}
 use Rattle.cd_cells.specs.declared.values.Values.{Values}
 use Rattle.cd_cells.specs.declared.cell.ValueId.{ValueId}
@@ -29,16 +32,14 @@ use Rattle.cd_lex.specs.declared.lexer.Lexer.{Lexer}
 use Rattle.cd_lex.specs.Lexing.{left, place, is_joined, LexesOn, FailsOn, with_characters, token_with, IsToken}
 use Rattle.cd_notation.specs.declared.form.Expecting.{Expecting}
 use Rattle.cd_notation.specs.declared.form.Expecting.TheVariants as expecting
-use Rattle.cd_notation.specs.declared.read.NotationError.{NotationError}
-use Rattle.cd_notation.specs.declared.read.NotationError.TheVariants.{Syntax, TooDeep}
 use Rattle.cd_notation.specs.declared.reader.Reader.{Reader}
 use Rattle.cd_notation.specs.declared.reader.Step.TheVariants as made_step
 use Rattle.cd_notation.specs.declared.terminal.Terminal.{Terminal as ATerminal}
-use Rattle.cd_notation.specs.Faulty.{IsFaultOf}
+use Rattle.cd_notation.specs.Faulty.{IsFaultOf, lexical, syntax, too_deep}
 use Rattle.cd_notation.specs.Inner.PlainTerminal.{plain_terminal}
 use Rattle.cd_notation.specs.Inner.Open as the
 use Rattle.cd_notation.specs.Inner.Leading.{IsStep, plain_expecting}
-use Rattle.cd_notation.specs.Inner.Going.{Going, of_lexer, IsRefusal, ended_of}
+use Rattle.cd_notation.specs.Inner.Going.{Going, IsFirstOf, IsRefusal, ended_of}
 
 -- a step of the reader, with what the machine does
 module _ (text : List ℕ) (lexer new_lexer : Lexer) (values new_values : Values) (next : Expecting) (reader new_reader : Reader)
@@ -79,13 +80,14 @@ module _ (text : List ℕ) (lexer new_lexer : Lexer) (values new_values : Values
       by (Err (machine.TooDeep at)) is led = absurd led
 
   -- the token can't stand there
-  pub is_wrong : IsStep span.from stepped new_values made_step.Wrong new_reader → (error : NotationError) → IsRefusal new_lexer (Syntax span.from) error
-      → IsFaultOf text error
-  is_wrong led error (inl (is, tokens, lexes)) = subst (IsFaultOf text) (sym is) (by stepped refl led)
+  pub is_wrong : IsStep span.from stepped new_values made_step.Wrong new_reader → (error : TextError) → IsRefusal new_lexer (Syntax span.from) error
+      → IfFault error (IsFaultOf text)
+  is_wrong led error refused = if_fault_weaker error (IsFirstOf new_lexer (Syntax span.from)) (IsFaultOf text) first_of refused
     where
-      by : (made : Result State machine.Fault) → stepped ≡ made → IsStep span.from made new_values made_step.Wrong new_reader → IsWrongText text span.from
-      by (Ok now) is led = absurd led
-      by (Err (machine.Syntax at)) is led =
+      by : (tokens : List Token) → LexesOn new_lexer tokens → (made : Result State machine.Fault) → stepped ≡ made → IsStep span.from made new_values made_step.Wrong new_reader
+          → IsWrongText text span.from
+      by tokens lexes (Ok now) is led = absurd led
+      by tokens lexes (Err (machine.Syntax at)) is led =
           let made = makes_on tokens lexes in
           record {
             tokens = made.0;
@@ -93,27 +95,32 @@ module _ (text : List ℕ) (lexer new_lexer : Lexer) (values new_values : Values
             wrong = wrong_document most_open made.0 (bytes text) span.from
                 (made.2 ∙ ap (going_on tokens) is ∙ ap (λ (from : ℕ). Err (machine.Syntax from)) led);
           }
-      by (Err (machine.TooDeep at)) is led = absurd led
-  is_wrong led error (inr (inl is)) = subst (IsFaultOf text) (sym is) tt
-  is_wrong led error (inr (inr (fault, is, fails))) = subst (IsFaultOf text) (sym is) (going.fails fault (token_is.fails fault fails))
+      by tokens lexes (Err (machine.TooDeep at)) is led = absurd led
 
-  pub is_too_deep : IsStep span.from stepped new_values made_step.TooDeep new_reader → (error : NotationError) → IsRefusal new_lexer (TooDeep span.from) error
-      → IsFaultOf text error
-  is_too_deep led error (inl (is, tokens, lexes)) = subst (IsFaultOf text) (sym is) (by stepped refl led)
+      first_of : (first : TextFault) → IsFirstOf new_lexer (Syntax span.from) first → IsFaultOf text first
+      first_of first (inl (is, tokens, lexes)) = subst (IsFaultOf text) (sym is) (syntax span.from (by tokens lexes stepped refl led))
+      first_of first (inr fails) = lexical first (going.fails first (token_is.fails first fails))
+
+  pub is_too_deep : IsStep span.from stepped new_values made_step.TooDeep new_reader → (error : TextError) → IsRefusal new_lexer (TooDeep span.from) error
+      → IfFault error (IsFaultOf text)
+  is_too_deep led error refused = if_fault_weaker error (IsFirstOf new_lexer (TooDeep span.from)) (IsFaultOf text) first_of refused
     where
-      by : (made : Result State machine.Fault) → stepped ≡ made → IsStep span.from made new_values made_step.TooDeep new_reader → IsTooDeepText text span.from
-      by (Ok now) is led = absurd led
-      by (Err (machine.Syntax at)) is led = absurd led
-      by (Err (machine.TooDeep at)) is led =
+      by : (tokens : List Token) → LexesOn new_lexer tokens → (made : Result State machine.Fault) → stepped ≡ made → IsStep span.from made new_values made_step.TooDeep new_reader
+          → IsTooDeepText text span.from
+      by tokens lexes (Ok now) is led = absurd led
+      by tokens lexes (Err (machine.Syntax at)) is led = absurd led
+      by tokens lexes (Err (machine.TooDeep at)) is led =
           let made = makes_on tokens lexes in
           record {
             tokens = made.0;
             lexes = made.1;
-            deep = too_deep most_open made.0 (bytes text) span.from
+            deep = deep_document most_open made.0 (bytes text) span.from
                 (made.2 ∙ ap (going_on tokens) is ∙ ap (λ (from : ℕ). Err (machine.TooDeep from)) led);
           }
-  is_too_deep led error (inr (inl is)) = subst (IsFaultOf text) (sym is) tt
-  is_too_deep led error (inr (inr (fault, is, fails))) = subst (IsFaultOf text) (sym is) (going.fails fault (token_is.fails fault fails))
+
+      first_of : (first : TextFault) → IsFirstOf new_lexer (TooDeep span.from) first → IsFaultOf text first
+      first_of first (inl (is, tokens, lexes)) = subst (IsFaultOf text) (sym is) (too_deep span.from (by tokens lexes stepped refl led))
+      first_of first (inr fails) = lexical first (going.fails first (token_is.fails first fails))
 
 -- at the end of the text
 module _ (text : List ℕ) (lexer : Lexer) (values : Values) (reader : Reader) where
@@ -149,15 +156,6 @@ module _ (text : List ℕ) (lexer : Lexer) (values : Values) (reader : Reader) w
       no_value expecting.Equal other = refl
       no_value (expecting.Nothing id) other = absurd (other id refl)
 
--- the lexer has a fault
-pub is_fault : (text : List ℕ) (fault : LexError) → (fault ≡ lex.Memory) ⊎ HasFirstFault false 0 text fault → IsFaultOf text (of_lexer fault)
-is_fault text fault (inl is) = subst (λ (fault : LexError). IsFaultOf text (of_lexer fault)) (sym is) tt
-is_fault text (lex.BadChar at) (inr fails) = fails
-is_fault text (lex.OpenText at) (inr fails) = fails
-is_fault text (lex.OpenComment at) (inr fails) = fails
-is_fault text (lex.TooWide at) (inr fails) = fails
-is_fault text lex.Memory (inr fails) = tt
-
 -- nothing is read
 pub going_starts : (lexer : Lexer) (values : Values) (reader : Reader) → reader.forms ≡ [] → reader.items ≡ [] → reader.labels ≡ []
     → place lexer ≡ 0 → is_joined lexer ≡ false → Going (left lexer) lexer values expecting.Value reader
@@ -178,17 +176,17 @@ going_starts lexer values reader no_forms no_items no_labels at joined = record 
 }
 
 -- what is answered at the end
-pub record IsEnd (text : List ℕ) (values : Values) (result : Result ValueId NotationError) : Type 0 where
+pub record IsEnd (text : List ℕ) (values : Values) (result : Result ValueId TextError) : Type 0 where
   pub within : IfOk result (λ id. id.0 < length (table values))
   pub value : IfOk result (λ id. WritesValue text (thing_at (table values) id.0))
-  pub fault : IfErr result (IsFaultOf text)
+  pub fault : IfErr result (λ error. IfFault error (IsFaultOf text))
 
-pub at_end : (text : List ℕ) (lexer : Lexer) (values : Values) (reader : Reader) (next : Expecting) (end : ℕ) (result : Result ValueId NotationError)
+pub at_end : (text : List ℕ) (lexer : Lexer) (values : Values) (reader : Reader) (next : Expecting) (end : ℕ) (result : Result ValueId TextError)
     → result ≡ ended_of next end → end ≡ bytes text → Going text lexer values next reader → LexesOn lexer [] → IsEnd text values result
 at_end text lexer values reader next end result is is_end going lexes = subst (IsEnd text values) (sym is) (by next going)
   where
-    unfinished : (next : Expecting) → Going text lexer values next reader → ((id : ValueId) → next ≡ expecting.Nothing id → ⊥) → IsEnd text values (Err (Syntax end))
-    unfinished next going other = record { within = tt; value = tt; fault = not_whole text lexer values reader next end is_end going other lexes }
+    unfinished : (next : Expecting) → Going text lexer values next reader → ((id : ValueId) → next ≡ expecting.Nothing id → ⊥) → IsEnd text values (Err (Fault (Syntax end)))
+    unfinished next going other = record { within = tt; value = tt; fault = syntax end (not_whole text lexer values reader next end is_end going other lexes) }
 
     by : (next : Expecting) → Going text lexer values next reader → IsEnd text values (ended_of next end)
     by (expecting.Nothing id) going = record { within = going.stands.within; value = whole text lexer values reader id going lexes; fault = tt }
@@ -202,10 +200,11 @@ at_end text lexer values reader next end result is is_end going lexes = subst (I
     by expecting.AfterAttribute going = unfinished expecting.AfterAttribute going (λ id is. absurd (cc is))
     by expecting.Equal going = unfinished expecting.Equal going (λ id is. absurd (cc is))
 
-pub has_fault : (text : List ℕ) (lexer : Lexer) (values : Values) (reader : Reader) (next : Expecting) (fault : LexError) (error : NotationError)
-    → error ≡ of_lexer fault → Going text lexer values next reader → (fault ≡ lex.Memory) ⊎ FailsOn lexer fault → IsFaultOf text error
-has_fault text lexer values reader next fault error is going (inl memory) = subst (IsFaultOf text) (sym is) (is_fault text fault (inl memory))
-has_fault text lexer values reader next fault error is going (inr fails) = subst (IsFaultOf text) (sym is) (is_fault text fault (inr (going.fails fault fails)))
+-- the rest has a fault
+pub has_fault : (text : List ℕ) (lexer : Lexer) (values : Values) (reader : Reader) (next : Expecting) (error : TextError) → Going text lexer values next reader
+    → IfFault error (FailsOn lexer) → IfFault error (IsFaultOf text)
+has_fault text lexer values reader next error going is =
+    if_fault_weaker error (FailsOn lexer) (IsFaultOf text) (λ fault fails. lexical fault (going.fails fault fails)) is
 
 -- the bytes of a text
 pub text_bytes : (text characters : List ℕ) (count : ℕ) → IsUtf8 text → count ≡ length text → characters ≡ chars text → count ≡ bytes characters

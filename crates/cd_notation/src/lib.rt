@@ -18,4 +18,4 @@ mod sorting;
 mod stack;
 mod terminal;
 
-pub use read::{NotationError, read_value};
+pub use read::read_value;

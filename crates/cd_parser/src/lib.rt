@@ -2,7 +2,7 @@
 #![tactic(auto)]
 
 mod cell;
-pub mod error;
+mod error;
 mod expr_part;
 mod exprs;
 mod functions;
@@ -26,5 +26,4 @@ mod triples;
 pub mod types;
 mod values;
 
-pub use error::ParseError;
 pub use types::{parse_declarations, parse_program, parse_type};

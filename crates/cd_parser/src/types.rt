@@ -1,5 +1,6 @@
 //! The types, the files of declarations and the programs that tokens write.
 ghost use Rattle.std.specs.Prelude.{◌≡◌, ℕ, List, IfOk, IfErr};
+ghost use Rattle.cd_syntax.specs.Faults.{IfFault};
 ghost use Rattle.cd_syntax.specs.TypeTree.{Tree as PlainTree, Declarations as PlainDeclarations};
 ghost use Rattle.cd_syntax.specs.TypeTree.{Declaration as PlainDeclaration, declarations_of};
 ghost use Rattle.cd_program.specs.Expr.{FunctionTree as PlainFunction};
@@ -12,12 +13,13 @@ ghost use Rattle.cd_tree_actions.specs.PlainTreeParts.{plain_tree_part};
 ghost use Rattle.cd_parser.specs.Parsed.{IsFault};
 ghost use Rattle.cd_parser.specs.PlainParts.{plain_part};
 
-use crate::error::{MOST_OPEN, ParseError, place_of};
+use crate::error::{MOST_OPEN, place_of};
 use crate::part::Part;
 use crate::reader::read;
 use crate::reading::Reading;
 use cd_grammar::goal::Goal;
 use cd_program::program::{FunctionTrees, Program};
+use cd_syntax::fault::{TextError, TextFault};
 use cd_syntax::tokens::Token;
 use cd_syntax::type_tree::{Declarations, Tree};
 use cd_tree_actions::part::TreePart;
@@ -28,18 +30,20 @@ use std::alloc::Global;
 /// # Errors
 ///
 /// The first fault of syntax or the first place that is more than 1,000 deep, or want of memory.
-pub fn parse_type(alloc: Global, tokens: &[Token], end: usize) -> Result<Tree, ParseError>
+pub fn parse_type(alloc: Global, tokens: &[Token], end: usize) -> Result<Tree, TextError>
     ensures tree { IfOk result (λ is. IsTree 1000 tokens.now (plain is)) }
-    ensures fault { IfErr result (λ error. IsFault AType 1000 tokens.now end error) }
+    ensures fault { IfErr result (λ error. IfFault error (IsFault AType 1000 tokens.now end)) }
 {
-    let reading = match read(alloc, Goal::TypeText, tokens, MOST_OPEN) {
-        Ok(reading) => reading,
-        Err(_) => return Err(ParseError::Memory),
-    };
-    match reading {
+    match read(alloc, Goal::TypeText, tokens, MOST_OPEN)? {
         Reading::Whole(part) => Ok(tree_in(part)),
-        Reading::Wrong(index) => Err(ParseError::Syntax(place_of(tokens, end, index))),
-        Reading::TooDeep(index) => Err(ParseError::TooDeep(place_of(tokens, end, index))),
+        Reading::Wrong(index) => {
+            let at = place_of(tokens, end, index);
+            Err(TextError::Fault(TextFault::Syntax(at)))
+        }
+        Reading::TooDeep(index) => {
+            let at = place_of(tokens, end, index);
+            Err(TextError::Fault(TextFault::TooDeep(at)))
+        }
     }
 }
 
@@ -53,19 +57,22 @@ pub fn parse_declarations(
     alloc: Global,
     tokens: &[Token],
     end: usize,
-) -> Result<Declarations, ParseError>
+) -> Result<Declarations, TextError>
     ensures declarations { IfOk result (λ declarations.
         AreDeclared 1000 tokens.now (plain_declarations declarations)) }
-    ensures fault { IfErr result (λ error. IsFault SomeDeclarations 1000 tokens.now end error) }
+    ensures fault { IfErr result
+        (λ error. IfFault error (IsFault SomeDeclarations 1000 tokens.now end)) }
 {
-    let reading = match read(alloc, Goal::TypeFile, tokens, MOST_OPEN) {
-        Ok(reading) => reading,
-        Err(_) => return Err(ParseError::Memory),
-    };
-    match reading {
+    match read(alloc, Goal::TypeFile, tokens, MOST_OPEN)? {
         Reading::Whole(part) => Ok(file_in(part)),
-        Reading::Wrong(index) => Err(ParseError::Syntax(place_of(tokens, end, index))),
-        Reading::TooDeep(index) => Err(ParseError::TooDeep(place_of(tokens, end, index))),
+        Reading::Wrong(index) => {
+            let at = place_of(tokens, end, index);
+            Err(TextError::Fault(TextFault::Syntax(at)))
+        }
+        Reading::TooDeep(index) => {
+            let at = place_of(tokens, end, index);
+            Err(TextError::Fault(TextFault::TooDeep(at)))
+        }
     }
 }
 
@@ -74,19 +81,21 @@ pub fn parse_declarations(
 /// # Errors
 ///
 /// The first fault of syntax or the first place that is more than 1,000 deep, or want of memory.
-pub fn parse_program(alloc: Global, tokens: &[Token], end: usize) -> Result<Program, ParseError>
+pub fn parse_program(alloc: Global, tokens: &[Token], end: usize) -> Result<Program, TextError>
     ensures program { IfOk result (λ is. IsProgram 1000 tokens.now (plain_program is)) }
     ensures end { IfOk result (λ is. is.end ≡ end) }
-    ensures fault { IfErr result (λ error. IsFault AProgram 1000 tokens.now end error) }
+    ensures fault { IfErr result (λ error. IfFault error (IsFault AProgram 1000 tokens.now end)) }
 {
-    let reading = match read(alloc, Goal::ProgramText, tokens, MOST_OPEN) {
-        Ok(reading) => reading,
-        Err(_) => return Err(ParseError::Memory),
-    };
-    match reading {
+    match read(alloc, Goal::ProgramText, tokens, MOST_OPEN)? {
         Reading::Whole(part) => Ok(program_in(part, end)),
-        Reading::Wrong(index) => Err(ParseError::Syntax(place_of(tokens, end, index))),
-        Reading::TooDeep(index) => Err(ParseError::TooDeep(place_of(tokens, end, index))),
+        Reading::Wrong(index) => {
+            let at = place_of(tokens, end, index);
+            Err(TextError::Fault(TextFault::Syntax(at)))
+        }
+        Reading::TooDeep(index) => {
+            let at = place_of(tokens, end, index);
+            Err(TextError::Fault(TextFault::TooDeep(at)))
+        }
     }
 }
 

@@ -1,8 +1,8 @@
 -- What the text of a document stands for, and what is reported of it.
-use Rattle.std.proofs.Common.{◌≡◌, true, ℕ, List, [], ◌∷◌, Ok, sym, subst}
+use Rattle.std.proofs.Common.{◌≡◌, true, ℕ, List, [], ◌∷◌}
 use Rattle.std.specs.Char.{IsScalar}
 use Rattle.std.specs.Str.{chars, IsUtf8}
-use Rattle.std.proofs.lemmas.Bool.{false≢true, and_parts}
+use Rattle.std.proofs.lemmas.Bool.{and_parts}
 use Rattle.std.proofs.lemmas.Str.{scalars-chars}
 use Rattle.std.proofs.Math.Utf8.{scalar, scalars}
 use Rattle.cd_model.specs.AllOf.{AllOf}
@@ -11,14 +11,15 @@ use Rattle.cd_documents.proofs.DataRead.{is_data}
 use Rattle.cd_documents.proofs.ValuesRead.{spelled_value}
 use Rattle.cd_documents.specs.Reading.{WritesValue, most_open}
 use Rattle.cd_notation.specs.Faulty.{IsFaultOf}
-use Rattle.cd_notation.specs.declared.read.NotationError.{NotationError}
-use Rattle.cd_notation.specs.declared.read.NotationError.TheVariants as error
+use Rattle.cd_notation.specs.Faulty as faulty
+use Rattle.cd_syntax.specs.Faults.{IfFault}
+use Rattle.cd_syntax.specs.declared.fault.TextError.{TextError}
+use Rattle.cd_syntax.specs.declared.fault.TextFault.{TextFault}
 use Rattle.cd_replies.specs.Bytes.{Bytes}
 use Rattle.cd_replies.specs.Documents.{RefusesDocument, lexical, syntax, too_deep}
-use Rattle.cd_replies.specs.Message.{text_fault}
-use Rattle.cd_replies.specs.declared.refusal.Refusal.{Refusal}
-use Rattle.cd_replies.specs.declared.refusal.Refusal.TheVariants as refusal
-use Rattle.cd_replies.specs.Inner.DocumentErrors.{IsOfDocument}
+use Rattle.cd_replies.specs.Refusals.{IfRefused, of_text}
+use Rattle.cd_replies.specs.declared.refusal.Refusal.TheVariants.{Text}
+use Rattle.cd_replies.proofs.TextReading.{text_refused}
 
 -- the value of a document is data, and a value of programs
 pub writes_data : (text : Bytes) (v : Thing) → WritesValue (chars text) v → IsData v
@@ -35,15 +36,10 @@ writes_value text v utf8 writes =
     spelled_value most_open (chars text) writes.tokens v (each_scalar (chars text) (scalars-chars text utf8)) writes.lexes writes.document
 
 -- the fault of a document stands against its text
-pub has_text_fault : (text : Bytes) (fault : NotationError) → IsFaultOf (chars text) fault → (found : Refusal) → IsOfDocument fault (Ok found)
-    → RefusesDocument text (text_fault found)
-has_text_fault text (error.Lex fault) is found means =
-    let same : found ≡ refusal.Lexical fault = cc in
-    subst (λ found. RefusesDocument text (text_fault found)) (sym same) (lexical fault is)
-has_text_fault text (error.Syntax place) is found means =
-    let same : found ≡ refusal.Syntax place = cc in
-    subst (λ found. RefusesDocument text (text_fault found)) (sym same) (syntax place is)
-has_text_fault text (error.TooDeep place) is found means =
-    let same : found ≡ refusal.TooDeep place = cc in
-    subst (λ found. RefusesDocument text (text_fault found)) (sym same) (too_deep place is)
-has_text_fault text error.Memory is found means = absurd (false≢true means)
+of_fault : (text : Bytes) (fault : TextFault) → IsFaultOf (chars text) fault → RefusesDocument text (Text fault)
+of_fault text _ (faulty.lexical fault is) = lexical fault is
+of_fault text _ (faulty.syntax place is) = syntax place is
+of_fault text _ (faulty.too_deep place is) = too_deep place is
+
+pub document_refused : (text : Bytes) (error : TextError) → IfFault error (IsFaultOf (chars text)) → IfRefused (of_text error) (RefusesDocument text)
+document_refused text error is = text_refused error (IsFaultOf (chars text)) (RefusesDocument text) (of_fault text) is

@@ -19,7 +19,8 @@ use Rattle.cd_documents.proofs.OneValue.{one_value}
 use Rattle.cd_documents.proofs.Refusing.{wrong_refused, deep_refused}
 use Rattle.cd_replies.specs.Bytes.{Bytes}
 use Rattle.cd_replies.specs.Reply.{refusal}
-use Rattle.cd_replies.specs.Texts.{TextFault, Lexical}
+use Rattle.cd_replies.specs.declared.refusal.Refusal.{Refusal}
+use Rattle.cd_replies.specs.declared.refusal.Refusal.TheVariants.{Text}
 use Rattle.cd_replies.specs.Documents.{RefusesDocument, lexical, syntax, too_deep, IsValueIn, IsValueOutside}
 
 -- what the machine makes of the tokens of a text
@@ -57,7 +58,7 @@ module _ (text : Bytes) where
       one_value most_open one.tokens first second one.document
       (subst (λ ts. IsDocument most_open ts second) (same_tokens one.tokens other.tokens one.lexes other.lexes) other.document)
 
-  pub writes_unrefused : (v : Thing) → WritesValue (chars text) v → (text_fault : TextFault) → RefusesDocument text text_fault → ⊥
+  pub writes_unrefused : (v : Thing) → WritesValue (chars text) v → (found : Refusal) → RefusesDocument text found → ⊥
   writes_unrefused v writes _ (lexical fault fails) = spelled_or_not (chars text) writes.tokens fault writes.lexes fails
   writes_unrefused v writes _ (syntax place is) =
       written_or_wrong writes.tokens (bytes (chars text)) place v writes.document
@@ -72,10 +73,10 @@ module _ (text : Bytes) where
       (subst (λ ts. IsTooDeepDocument most_open ts (bytes (chars text)) q) (same_tokens wrong.tokens deep.tokens wrong.lexes deep.lexes) deep.deep)
 
   -- what is said of what stands against it has one status
-  pub one_document_refusal : (origin : Bytes) (a b : TextFault) → RefusesDocument text a → RefusesDocument text b
+  pub one_document_refusal : (origin : Bytes) (a b : Refusal) → RefusesDocument text a → RefusesDocument text b
       → (refusal origin text a).status ≡ (refusal origin text b).status
   one_document_refusal origin _ _ (lexical a fails) (lexical b fails') =
-      ap (λ fault. (refusal origin text (Lexical fault)).status) (one_fault (chars text) a b fails fails')
+      ap (λ fault. (refusal origin text (Text fault)).status) (one_fault (chars text) a b fails fails')
   one_document_refusal origin _ _ (lexical a fails) (syntax place is) = absurd (spelled_or_not (chars text) is.tokens a is.lexes fails)
   one_document_refusal origin _ _ (lexical a fails) (too_deep place is) = absurd (spelled_or_not (chars text) is.tokens a is.lexes fails)
   one_document_refusal origin _ _ (syntax place is) (lexical b fails) = absurd (spelled_or_not (chars text) is.tokens b is.lexes fails)

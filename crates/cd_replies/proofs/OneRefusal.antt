@@ -1,6 +1,7 @@
 -- At most one thing stands against a text, but for the name that is reported of a naming fault, and none against a text that reads.
 use Rattle.std.proofs.Common.{◌≡◌, ℕ, List, length, refl, sym, ap, subst, ◌∙◌}
 use Rattle.std.specs.Str.{chars}
+use Rattle.cd_syntax.specs.declared.fault.TextFault.TheVariants.{Syntax, TooDeep}
 use Rattle.cd_syntax.specs.declared.tokens.Token.{Token}
 use Rattle.cd_syntax.specs.TypeTree.{Declarations}
 use Rattle.cd_program.specs.Expr.{Program, FunctionTree}
@@ -15,18 +16,21 @@ use Rattle.cd_names.specs.ProgramFaults.{IsFaultOfProgram}
 use Rattle.cd_lex.proofs.ReadingIsOne.{one_list, one_fault, not_both as spelled_or_not}
 use Rattle.cd_replies.specs.Bytes.{Bytes}
 use Rattle.cd_replies.specs.Reply.{refusal}
-use Rattle.cd_replies.specs.Texts.{TextFault, Lexical, Syntax, TooDeep, Naming, HasTokens, Refuses, lexical, syntax, too_deep, naming}
+use Rattle.cd_replies.specs.Refusals.{naming_of}
+use Rattle.cd_replies.specs.Texts.{HasTokens, Refuses, lexical, syntax, too_deep, naming}
+use Rattle.cd_replies.specs.declared.refusal.Refusal.{Refusal}
+use Rattle.cd_replies.specs.declared.refusal.Refusal.TheVariants.{Text}
 use Rattle.cd_replies.specs.Texts.{ReadsAs, Declares, RefusesType, RefusesDeclarations, IsReportedOfType, IsReportedOfDeclarations, type_of}
 use Rattle.cd_replies.specs.Texts.{ReadsAsProgram, RefusesProgram, IsReportedOfProgram}
 use Rattle.cd_replies.proofs.OneFault.{syntax_one, depth_one, not_both, written_no_syntax, written_no_depth}
 
 -- the same thing stands against a text, or a naming fault in each case
-data IsAlike : (a b : TextFault) → Type 0 where
-  same : (a b : TextFault) → a ≡ b → IsAlike a b
-  both_naming : (a b : Fault) → IsAlike (Naming a) (Naming b)
+data IsAlike : (a b : Refusal) → Type 0 where
+  same : (a b : Refusal) → a ≡ b → IsAlike a b
+  both_naming : (a b : Fault) → IsAlike (naming_of a) (naming_of b)
 
-one_status : (origin text : Bytes) (a b : TextFault) → IsAlike a b → (refusal origin text a).status ≡ (refusal origin text b).status
-one_status origin text a b (same _ _ is) = ap (λ text_fault. (refusal origin text text_fault).status) is
+one_status : (origin text : Bytes) (a b : Refusal) → IsAlike a b → (refusal origin text a).status ≡ (refusal origin text b).status
+one_status origin text a b (same _ _ is) = ap (λ found. (refusal origin text found).status) is
 one_status origin text _ _ (both_naming a b) = refl
 
 module _ (form : Form) (law : IsForm form) (reported : List Token → Fault → Type 0)
@@ -35,9 +39,9 @@ module _ (form : Form) (law : IsForm form) (reported : List Token → Fault → 
   same_tokens : (first second : List Token) → HasTokens text first → HasTokens text second → second ≡ first
   same_tokens first second spelled other = one_list (chars text) second first other spelled
 
-  one_refusal : (a b : TextFault) → Refuses form reported text a → Refuses form reported text b → IsAlike a b
+  one_refusal : (a b : Refusal) → Refuses form reported text a → Refuses form reported text b → IsAlike a b
   one_refusal _ _ (lexical a_f a_fails) (lexical b_f b_fails) =
-      same _ _ (ap Lexical (one_fault (chars text) a_f b_f a_fails b_fails))
+      same _ _ (ap Text (one_fault (chars text) a_f b_f a_fails b_fails))
   one_refusal _ _ (lexical a_f a_fails) (syntax b_ts b_spelled b_p b_fault) =
       absurd (spelled_or_not (chars text) b_ts a_f b_spelled a_fails)
   one_refusal _ _ (lexical a_f a_fails) (too_deep b_ts b_spelled b_p b_fault) =
@@ -47,7 +51,7 @@ module _ (form : Form) (law : IsForm form) (reported : List Token → Fault → 
   one_refusal _ _ (syntax a_ts a_spelled a_p a_fault) (lexical b_f b_fails) =
       absurd (spelled_or_not (chars text) a_ts b_f a_spelled b_fails)
   one_refusal _ _ (syntax a_ts a_spelled a_p a_fault) (syntax b_ts b_spelled b_p b_fault) =
-      same _ _ (ap Syntax (syntax_one form law 1000 a_ts (length text) a_p b_p a_fault
+      same _ _ (ap (λ place. Text (Syntax place)) (syntax_one form law 1000 a_ts (length text) a_p b_p a_fault
       (subst (λ ts. IsSyntaxFault form 1000 ts (length text) b_p) (same_tokens a_ts b_ts a_spelled b_spelled) b_fault)))
   one_refusal _ _ (syntax a_ts a_spelled a_p a_fault) (too_deep b_ts b_spelled b_p b_fault) =
       absurd (not_both form law 1000 a_ts (length text) a_p b_p a_fault
@@ -61,7 +65,7 @@ module _ (form : Form) (law : IsForm form) (reported : List Token → Fault → 
       absurd (not_both form law 1000 a_ts (length text) b_p a_p
       (subst (λ ts. IsSyntaxFault form 1000 ts (length text) b_p) (same_tokens a_ts b_ts a_spelled b_spelled) b_fault) a_fault)
   one_refusal _ _ (too_deep a_ts a_spelled a_p a_fault) (too_deep b_ts b_spelled b_p b_fault) =
-      same _ _ (ap TooDeep (depth_one form law 1000 a_ts (length text) a_p b_p a_fault
+      same _ _ (ap (λ place. Text (TooDeep place)) (depth_one form law 1000 a_ts (length text) a_p b_p a_fault
       (subst (λ ts. IsDepthFault form 1000 ts (length text) b_p) (same_tokens a_ts b_ts a_spelled b_spelled) b_fault)))
   one_refusal _ _ (too_deep a_ts a_spelled a_p a_fault) (naming b_ts b_spelled b_fault b_reported) =
       absurd (written_no_depth form law 1000 a_ts (length text) a_p
@@ -79,7 +83,7 @@ module _ (form : Form) (law : IsForm form) (reported : List Token → Fault → 
 
   -- nothing stands against tokens that are of the form, where no naming fault is reported of what they write
   stands_not : (tokens : List Token) → HasTokens text tokens → form.Writes 1000 tokens → ((fault : Fault) → reported tokens fault → ⊥)
-      → (text_fault : TextFault) → Refuses form reported text text_fault → ⊥
+      → (found : Refusal) → Refuses form reported text found → ⊥
   stands_not tokens spelled written sound _ (lexical f fails) = spelled_or_not (chars text) tokens f spelled fails
   stands_not tokens spelled written sound _ (syntax ts other p fault) =
       written_no_syntax form law 1000 tokens (length text) p written
@@ -118,17 +122,17 @@ reads_one_program text first second one other =
     same_program one.tokens first second one.written (subst (λ ts. IsProgram 1000 ts second) same other.written) (one.ends ∙ sym other.ends)
 
 -- what is said of what stands against a text has one status
-pub one_type_refusal : (declared : Declarations) (origin text : Bytes) (a b : TextFault) → RefusesType declared text a → RefusesType declared text b
+pub one_type_refusal : (declared : Declarations) (origin text : Bytes) (a b : Refusal) → RefusesType declared text a → RefusesType declared text b
     → (refusal origin text a).status ≡ (refusal origin text b).status
 one_type_refusal declared origin text a b first second = one_status origin text a b
     (one_refusal AType type_form (IsReportedOfType declared) (writes_type declared) text a b first second)
 
-pub one_declarations_refusal : (origin text : Bytes) (a b : TextFault) → RefusesDeclarations text a → RefusesDeclarations text b
+pub one_declarations_refusal : (origin text : Bytes) (a b : Refusal) → RefusesDeclarations text a → RefusesDeclarations text b
     → (refusal origin text a).status ≡ (refusal origin text b).status
 one_declarations_refusal origin text a b first second = one_status origin text a b
     (one_refusal SomeDeclarations declarations_form IsReportedOfDeclarations writes_declarations text a b first second)
 
-pub one_program_refusal : (origin text : Bytes) (a b : TextFault) → RefusesProgram text a → RefusesProgram text b
+pub one_program_refusal : (origin text : Bytes) (a b : Refusal) → RefusesProgram text a → RefusesProgram text b
     → (refusal origin text a).status ≡ (refusal origin text b).status
 one_program_refusal origin text a b first second = one_status origin text a b
     (one_refusal AProgram program_form (IsReportedOfProgram (length text)) (writes_program (length text)) text a b first second)
@@ -136,32 +140,32 @@ one_program_refusal origin text a b first second = one_status origin text a b
 -- a text that reads as a type is not refused, nor is one that reads as declarations, nor one that reads as a
 -- program
 pub reads_unrefused : (declared : Declarations) (text : Bytes) (is : Written) → ReadsAs declared text is
-    → (text_fault : TextFault) → RefusesType declared text text_fault → ⊥
-reads_unrefused declared text is reads text_fault refuses =
+    → (found : Refusal) → RefusesType declared text found → ⊥
+reads_unrefused declared text is reads found refuses =
     stands_not AType type_form (IsReportedOfType declared) (writes_type declared) text reads.tokens reads.spelled (reads.tree, reads.written)
     (λ fault reported.
     let same = one_tree 1000 1000 reads.tokens reported.0 reads.tree reported.1 reads.written in
     reads.sound fault (subst (λ tree. IsFaultOfType declared tree fault) same reported.2.is))
-    text_fault refuses
+    found refuses
 
 pub declares_unrefused : (text : Bytes) (declared : Declarations) → Declares text declared
-    → (text_fault : TextFault) → RefusesDeclarations text text_fault → ⊥
-declares_unrefused text declared declares text_fault refuses =
+    → (found : Refusal) → RefusesDeclarations text found → ⊥
+declares_unrefused text declared declares found refuses =
     stands_not SomeDeclarations declarations_form IsReportedOfDeclarations writes_declarations text declares.tokens declares.spelled (declared, declares.written)
     (λ fault reported.
     let same = one_declared 1000 1000 declares.tokens reported.0 declared reported.1 declares.written in
     declares.sound fault (subst (λ list. IsFaultOfDeclarations list fault) same reported.2.is))
-    text_fault refuses
+    found refuses
 
 pub program_unrefused : (text : Bytes) (program : Program) → ReadsAsProgram text program
-    → (text_fault : TextFault) → RefusesProgram text text_fault → ⊥
-program_unrefused text program reads text_fault refuses =
+    → (found : Refusal) → RefusesProgram text found → ⊥
+program_unrefused text program reads found refuses =
     stands_not AProgram program_form (IsReportedOfProgram (length text)) (writes_program (length text)) text reads.tokens reads.spelled
     (program, reads.written)
     (λ fault reported.
     let same = same_program reads.tokens reported.0 program reported.1 reads.written (reported.2 ∙ sym reads.ends) in
     reads.sound fault (subst (λ is. IsFaultOfProgram is fault) same reported.3.is))
-    text_fault refuses
+    found refuses
 
 -- a text reads as one type at most, and as one list of declarations
 pub reads_one : (declared : Declarations) (text : Bytes) (first second : Written) → ReadsAs declared text first → ReadsAs declared text second

@@ -9,15 +9,18 @@ use Rattle.std.proofs.lemmas.Slice.Eq.{bytes_eq-Decides}
 use Rattle.cd_base.specs.FilesState.{FilesState}
 use Rattle.cd_replies.specs.Bytes.{Bytes}
 use Rattle.cd_replies.specs.Disk.{Disk, HasText, unreadable, known_disk, unreadable_disk, FileRefusal, unread}
-use Rattle.cd_replies.specs.File.{IsFileRead, ReadsAmong, said_of}
-use Rattle.cd_replies.specs.Message.{IsAnswer, reply_of}
-use Rattle.cd_replies.specs.Reply.{Reply, cannot_read}
-use Rattle.cd_replies.specs.Texts.{TextFault}
-use Rattle.cd_replies.specs.declared.file.FileFault.{FileFault}
+use Rattle.cd_replies.specs.File.{IsFileRead, ReadsAmong, IsSaidOfFile, said_of}
+use Rattle.cd_replies.specs.Message.{IsAnswer, IsSaidOfText, reply_of}
+use Rattle.cd_replies.specs.Reply.{Reply, cannot_read, refusal}
+use Rattle.cd_replies.specs.Refusals.{IfRefused}
+use Rattle.cd_replies.specs.declared.file.FileError.{FileError}
+use Rattle.cd_replies.specs.declared.file.FileError.TheVariants.{Fault, Memory}
 use Rattle.cd_replies.specs.declared.message.Message.{Message}
+use Rattle.cd_replies.specs.declared.refusal.Refusal.{Refusal}
+use Rattle.cd_replies.specs.declared.refusal.RefusalError.{RefusalError}
 use Rattle.cd_replies.proofs.FilesEncountered.{has_text, has_text_beside, encountered_same, FaultMet, fault_encountered}
 use Rattle.cd_replies.proofs.FilesEncountered as encountered
-use Rattle.cd_replies.proofs.Messages.{replies}
+use Rattle.cd_replies.proofs.Messages.{replies, nothing_said, refusal_replies}
 use Rattle.cd_replies.specs.Documents.{RefusesDocument}
 use Rattle.cd_replies.specs.Finishing.{Finishes, granted, failed}
 
@@ -27,6 +30,12 @@ pub said_at_once : (answers : Disk → Reply → Type 0) (files : FilesState) (d
     → Finishes answers files files document r
 said_at_once answers files document reply r said is =
     granted refl (replies r reply (answers (known_disk files)) said (is (known_disk files)))
+
+pub refused_at_once : (answers : Disk → Reply → Type 0) (files : FilesState) (document origin text : Bytes) (error : RefusalError) (such : Refusal → Type 0)
+    → IfRefused error such → (r : Result Message AllocError) → IfOk r (λ message. IsSaidOfText origin text error (reply_of message))
+    → ((found : Refusal) → such found → (disk : Disk) → answers disk (refusal origin text found)) → Finishes answers files files document r
+refused_at_once answers files document origin text error such is r said leads =
+    granted refl (refusal_replies r origin text error such (answers (known_disk files)) said is (λ found stands. leads found stands (known_disk files)))
 
 -- other answers follow
 each_ok : (first second : Reply → Type 0) (r : Result Message AllocError) → ((reply : Reply) → first reply → second reply)
@@ -51,14 +60,15 @@ fault_finishes answers old new document _ (encountered.failed fails refusal) r s
 fault_finishes answers old new document _ (encountered.granted same reply refusal) r said is =
     granted same (replies r reply (answers (known_disk old)) said (is (known_disk old) reply refusal))
 
-pub no_document : (answers : Disk → Reply → Type 0) (old new : FilesState) (document : Bytes) (fault : FileFault)
-    → IsFileRead old new document (Ok (Err fault)) → (r : Result Message AllocError) → IfOk r (λ message. reply_of message ≡ said_of document fault)
+pub no_document : (answers : Disk → Reply → Type 0) (old new : FilesState) (document : Bytes) (error : FileError)
+    → IsFileRead old new document (Err error) → (r : Result Message AllocError) → IfOk r (λ message. IsSaidOfFile document error (reply_of message))
     → ((disk : Disk) (reply : Reply) → FileRefusal RefusesDocument disk document reply → answers disk reply) → Finishes answers old new document r
-no_document answers old new document fault is r said leads =
+no_document answers old new document (Fault fault) is r said leads =
     fault_finishes answers old new document (said_of document fault) (fault_encountered RefusesDocument old new document fault is) r said leads
+no_document answers old new document Memory is r said leads = granted is (nothing_said r (answers (known_disk old)) said)
 
 -- the whole command, by what was read of its file: what refuses the file is an answer
-module _ (refuses : Bytes → TextFault → Type 0) (answers : (file : Bytes) → Disk → Reply → Type 0)
+module _ (refuses : Bytes → Refusal → Type 0) (answers : (file : Bytes) → Disk → Reply → Type 0)
     (file_refused : (file : Bytes) (disk : Disk) (reply : Reply) → FileRefusal refuses disk file reply → answers file disk reply)
     (file document : Bytes) where
   abbrev Answers : Disk → Reply → Type 0
@@ -77,15 +87,13 @@ module _ (refuses : Bytes → TextFault → Type 0) (answers : (file : Bytes) �
     replies r reply (Answers (known_disk old)) said (file_refused file (known_disk old) reply refusal),
   )
 
-  pub nothing_said : (old new : FilesState) (error : AllocError) → new ≡ old → IsAnswer Answers old new (Err error)
-  nothing_said old new error same = (known_disk old, encountered_same old new same, tt)
-
-  pub no_file : (old new : FilesState) (fault : FileFault) → IsFileRead old new file (Ok (Err fault))
-      → (r : Result Message AllocError) → IfOk r (λ message. reply_of message ≡ said_of file fault) → IsAnswer Answers old new r
-  no_file old new fault is r said = file_encountered old new (said_of file fault) (fault_encountered refuses old new file fault is) r said
+  pub no_file : (old new : FilesState) (error : FileError) → IsFileRead old new file (Err error)
+      → (r : Result Message AllocError) → IfOk r (λ message. IsSaidOfFile file error (reply_of message)) → IsAnswer Answers old new r
+  no_file old new (Fault fault) is r said = file_encountered old new (said_of file fault) (fault_encountered refuses old new file fault is) r said
+  no_file old new Memory is r said = (known_disk old, encountered_same old new is, nothing_said r (Answers (known_disk old)) said)
 
   -- a document that can't be read: where it is the file, so is the file
-  document_unread : (old new : FilesState) (types : String Global) → IsFileRead old old file (Ok (Ok types)) → (same : Bool)
+  document_unread : (old new : FilesState) (types : String Global) → IsFileRead old old file (Ok types) → (same : Bool)
       → bytes_eq document file ≡ same → (r : Result Message AllocError) → IfOk r (λ message. reply_of message ≡ cannot_read document)
       → IfOk r (λ message. HasText (unreadable_disk old document) file (string_bytes types) → Answers (unreadable_disk old document) (reply_of message))
       → IfOk r (λ message. Answers (unreadable_disk old document) (reply_of message))
@@ -99,7 +107,7 @@ module _ (refuses : Bytes → TextFault → Type 0) (answers : (file : Bytes) �
       each_ok (λ reply. HasText (unreadable_disk old document) file (string_bytes types) → Answers (unreadable_disk old document) reply)
       (Answers (unreadable_disk old document)) r (λ reply on. on (has_text_beside old old file document types other read)) on_text
 
-  whole : (old new : FilesState) (types : String Global) → IsFileRead old old file (Ok (Ok types)) → (r : Result Message AllocError)
+  whole : (old new : FilesState) (types : String Global) → IsFileRead old old file (Ok types) → (r : Result Message AllocError)
       → Finishes (λ disk reply. HasText disk file (string_bytes types) → Answers disk reply) old new document r → IsAnswer Answers old new r
   whole old new types read r (granted same is) = (
     known_disk old,
@@ -113,7 +121,7 @@ module _ (refuses : Bytes → TextFault → Type 0) (answers : (file : Bytes) �
     document_unread old new types read (bytes_eq document file) refl r said is,
   )
 
-  pub answers_on : (old next new : FilesState) (types : String Global) → IsFileRead old next file (Ok (Ok types)) → (r : Result Message AllocError)
+  pub answers_on : (old next new : FilesState) (types : String Global) → IsFileRead old next file (Ok types) → (r : Result Message AllocError)
       → Finishes (λ disk reply. HasText disk file (string_bytes types) → Answers disk reply) next new document r → IsAnswer Answers old new r
   answers_on old next new types read r finishes =
       whole old new types (refl, read.1, read.2, read.3) r

@@ -6,7 +6,7 @@ use Rattle.cd_base.specs.Faults.{Rose}
 use Rattle.cd_base.specs.FilesState.{FilesState}
 use Rattle.cd_replies.specs.Bytes.{Bytes}
 use Rattle.cd_replies.specs.Reply.{Reply, cannot_read, too_large, not_utf8, refusal}
-use Rattle.cd_replies.specs.Texts.{TextFault}
+use Rattle.cd_replies.specs.declared.refusal.Refusal.{Refusal}
 
 -- the files that a call encounters: the bytes of each name that are known, and the one name, if
 -- there is one, that can't be read
@@ -46,7 +46,7 @@ pub data Encountered (before after : FilesState) : Disk → Type 0 where
       → Encountered before after (unreadable_disk before name)
 
 -- the replies that refuse a file, by what stands against its text
-pub data FileRefusal (refuses : Bytes → TextFault → Type 0) (disk : Disk) (name : Bytes) : Reply
+pub data FileRefusal (refuses : Bytes → Refusal → Type 0) (disk : Disk) (name : Bytes) : Reply
     → Type 0 where
   unread : disk.unreadable ≡ Some name → FileRefusal refuses disk name (cannot_read name)
   large : (bytes : Bytes) → Has disk name bytes → LARGEST < length bytes
@@ -54,6 +54,5 @@ pub data FileRefusal (refuses : Bytes → TextFault → Type 0) (disk : Disk) (n
   -- the byte that is reported is the length of the longest prefix that is UTF-8
   encoding : (bytes : Bytes) → Has disk name bytes → length bytes ≤ LARGEST → (IsUtf8 bytes → ⊥)
       → FileRefusal refuses disk name (not_utf8 name (utf8_valid_len bytes))
-  refused : (text : Bytes) → HasText disk name text → (text_fault : TextFault)
-      → refuses text text_fault
-      → FileRefusal refuses disk name (refusal name text text_fault)
+  refused : (text : Bytes) → HasText disk name text → (found : Refusal) → refuses text found
+      → FileRefusal refuses disk name (refusal name text found)

@@ -1,5 +1,6 @@
 pub mod Bytes
 pub mod Position
+pub mod Refusals
 pub mod Texts
 pub mod Naming
 pub mod Within
@@ -9,4 +10,3 @@ pub mod Documents
 pub mod Message
 pub mod File
 pub mod Finishing
-pub mod Inner

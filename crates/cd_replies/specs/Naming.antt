@@ -10,7 +10,9 @@ use Rattle.cd_model.specs.StandsFor.{StandsFor}
 use Rattle.cd_model.specs.Written.{Written}
 use Rattle.cd_resolve.specs.Faults.{Fault, IsFaultOfDeclarations, IsReported}
 use Rattle.cd_replies.specs.Bytes.{Bytes}
-use Rattle.cd_replies.specs.Texts.{TextFault, Naming, HasTokens, ReadsAs}
+use Rattle.cd_replies.specs.Refusals.{naming_of}
+use Rattle.cd_replies.specs.Texts.{HasTokens, ReadsAs}
+use Rattle.cd_replies.specs.declared.refusal.Refusal.{Refusal}
 
 -- the text is written as these type declarations, with whatever names
 pub record Writes (text : Bytes) (declared : Declarations) : Type 0 where
@@ -23,9 +25,9 @@ abbrev pub AreNamedWell : Declarations → Type 0
 AreNamedWell declared = (fault : Fault) → IsFaultOfDeclarations declared fault → ⊥
 
 -- the naming fault that is reported of the declarations stands against them
-pub data RefusesNames (declared : Declarations) : TextFault → Type 0 where
+pub data RefusesNames (declared : Declarations) : Refusal → Type 0 where
   naming : (fault : Fault) → IsReported (IsFaultOfDeclarations declared) fault
-      → RefusesNames declared (Naming fault)
+      → RefusesNames declared (naming_of fault)
 
 -- the node stands for the type that the text reads as, which sees these declarations
 pub record StandsForText (graph : Graph) (id : NodeId) (declared : Declarations) (text : Bytes)

@@ -11,9 +11,9 @@ use Rattle.cd_base.specs.declared.status.Status.TheVariants.{IllTyped as IsIllTy
 use Rattle.cd_base.specs.declared.status.Status.TheVariants.{NotInput, Uncaught}
 use Rattle.cd_base.specs.declared.status.Status.TheVariants.{Overflow as IsOverflow}
 use Rattle.cd_base.specs.declared.status.Status.TheVariants.{Spent as IsSpent}
-use Rattle.cd_syntax.specs.declared.tokens.LexError.{LexError}
-use Rattle.cd_syntax.specs.declared.tokens.LexError.TheVariants.{BadChar, OpenText, OpenComment}
-use Rattle.cd_syntax.specs.declared.tokens.LexError.TheVariants.{TooWide, Memory}
+use Rattle.cd_syntax.specs.declared.fault.TextFault.{TextFault}
+use Rattle.cd_syntax.specs.declared.fault.TextFault.TheVariants.{BadChar, OpenText, OpenComment}
+use Rattle.cd_syntax.specs.declared.fault.TextFault.TheVariants.{TooWide, Syntax, TooDeep}
 use Rattle.cd_replies.specs.Bytes.{Bytes}
 use Rattle.cd_replies.specs.Position.{position}
 use Rattle.cd_resolve.specs.Faults.{Fault}
@@ -22,7 +22,8 @@ use Rattle.cd_resolve.specs.declared.fault.NameFault.TheVariants.{Unknown, Twice
 use Rattle.cd_resolve.specs.declared.fault.NameFault.TheVariants.{VariablesDiffer, VariableTwice}
 use Rattle.cd_resolve.specs.declared.fault.NameFault.TheVariants.{VariableRepeats}
 use Rattle.cd_resolve.specs.declared.fault.NameFault.TheVariants.{VariableMisplaced, NoMain}
-use Rattle.cd_replies.specs.Texts.{TextFault, Lexical, Syntax, TooDeep, Naming}
+use Rattle.cd_replies.specs.declared.refusal.Refusal.{Refusal}
+use Rattle.cd_replies.specs.declared.refusal.Refusal.TheVariants.{Text, Naming}
 
 pub record Reply : Type 0 where
   pub status : Status
@@ -61,15 +62,18 @@ abbrev pub at_place : Status → (origin text : Bytes) → (place : ℕ) → Byt
 at_place status origin text place message =
     complains status (origin ++ codes ":" ++ position text place ++ codes ": " ++ message)
 
--- a lexical fault. Want of memory is none, and never comes here
-abbrev pub lexical : (origin text : Bytes) → LexError → Reply
-lexical origin text (BadChar place) = at_place IsLexical origin text place (codes "bad character")
-lexical origin text (OpenText place) =
+-- a fault of a text: a lexical one, one of syntax, or what is too deep
+abbrev pub text_fault : (origin text : Bytes) → TextFault → Reply
+text_fault origin text (BadChar place) =
+    at_place IsLexical origin text place (codes "bad character")
+text_fault origin text (OpenText place) =
     at_place IsLexical origin text place (codes "text not closed")
-lexical origin text (OpenComment place) =
+text_fault origin text (OpenComment place) =
     at_place IsLexical origin text place (codes "comment not closed")
-lexical origin text (TooWide place) = at_place IsLexical origin text place (codes "number too wide")
-lexical origin text Memory = complains IsLexical origin
+text_fault origin text (TooWide place) =
+    at_place IsLexical origin text place (codes "number too wide")
+text_fault origin text (Syntax place) = at_place IsSyntax origin text place (codes "syntax")
+text_fault origin text (TooDeep place) = at_place IsTooDeep origin text place (codes "too deep")
 
 -- a naming fault of this name
 abbrev pub naming_message : NameFault → Bytes → Bytes
@@ -88,11 +92,10 @@ naming origin text fault =
 
 -- what is said of a text where this stands against it; its origin is the name of its file, or `T1`
 -- or `T2`
-abbrev pub refusal : (origin text : Bytes) → TextFault → Reply
-refusal origin text (Lexical fault) = lexical origin text fault
-refusal origin text (Syntax place) = at_place IsSyntax origin text place (codes "syntax")
-refusal origin text (TooDeep place) = at_place IsTooDeep origin text place (codes "too deep")
-refusal origin text (Naming fault) = naming origin text fault
+abbrev pub refusal : (origin text : Bytes) → Refusal → Reply
+refusal origin text (Text fault) = text_fault origin text fault
+refusal origin text (Naming fault name at) =
+    naming origin text (record { fault = fault; name = name; at = at })
 
 -- what is said of a program that has no types: a rule that isn't met at this place, and an element
 -- that shows it

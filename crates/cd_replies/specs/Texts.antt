@@ -3,7 +3,8 @@
 use Rattle.std.specs.Prelude.{◌≡◌, ℕ, false, List, [], ◌∷◌, length}
 use Rattle.std.specs.Str.{chars}
 use Rattle.cd_syntax.specs.declared.tokens.Token.{Token}
-use Rattle.cd_syntax.specs.declared.tokens.LexError.{LexError}
+use Rattle.cd_syntax.specs.declared.fault.TextFault.{TextFault}
+use Rattle.cd_syntax.specs.declared.fault.TextFault.TheVariants.{Syntax, TooDeep}
 use Rattle.cd_syntax.specs.Tokens.{Lexes}
 use Rattle.cd_syntax.specs.Faults.{HasFirstFault}
 use Rattle.cd_syntax.specs.TypeTree.{Tree, Declarations}
@@ -15,6 +16,9 @@ use Rattle.cd_model.specs.Written.{Written}
 use Rattle.cd_resolve.specs.Faults.{Fault, IsFaultOfType, IsFaultOfDeclarations, IsReported}
 use Rattle.cd_names.specs.ProgramFaults.{IsFaultOfProgram}
 use Rattle.cd_replies.specs.Bytes.{Bytes}
+use Rattle.cd_replies.specs.Refusals.{naming_of}
+use Rattle.cd_replies.specs.declared.refusal.Refusal.{Refusal}
+use Rattle.cd_replies.specs.declared.refusal.Refusal.TheVariants.{Text}
 
 -- the text lexes to these tokens
 abbrev pub HasTokens : Bytes → List Token → Type 0
@@ -49,28 +53,20 @@ pub record ReadsAsProgram (text : Bytes) (program : Program) : Type 0 where
   pub sound : (fault : Fault) → IsFaultOfProgram program fault → ⊥
 
 -- what stands against a text, whose tokens are to be of a form: its first lexical fault, the place
--- of its fault of syntax, or that of a form too deep, or the naming fault that is reported of it
-pub data TextFault : Type 0 where
-  Lexical : LexError → TextFault
-  Syntax : (place : ℕ) → TextFault
-  TooDeep : (place : ℕ) → TextFault
-  Naming : Fault → TextFault
-
--- it stands against the text; `reported` says of tokens that are of the form which naming fault is
--- reported
--- of what they write
-pub data Refuses (form : Form) (reported : List Token → Fault → Type 0) (text : Bytes) : TextFault
+-- of its fault of syntax, or that of a form too deep, or the naming fault that is reported of it;
+-- `reported` says of tokens that are of the form which naming fault is reported of what they write
+pub data Refuses (form : Form) (reported : List Token → Fault → Type 0) (text : Bytes) : Refusal
     → Type 0 where
-  lexical : (fault : LexError) → HasFirstFault false 0 (chars text) fault
-      → Refuses form reported text (Lexical fault)
+  lexical : (fault : TextFault) → HasFirstFault false 0 (chars text) fault
+      → Refuses form reported text (Text fault)
   syntax : (tokens : List Token) → HasTokens text tokens → (place : ℕ)
       → IsSyntaxFault form 1000 tokens (length text) place
-      → Refuses form reported text (Syntax place)
+      → Refuses form reported text (Text (Syntax place))
   too_deep : (tokens : List Token) → HasTokens text tokens → (place : ℕ)
       → IsDepthFault form 1000 tokens (length text) place
-      → Refuses form reported text (TooDeep place)
+      → Refuses form reported text (Text (TooDeep place))
   naming : (tokens : List Token) → HasTokens text tokens → (fault : Fault) → reported tokens fault
-      → Refuses form reported text (Naming fault)
+      → Refuses form reported text (naming_of fault)
 
 -- the fault is reported of the type that the tokens write, of the declarations, and of the program,
 -- whose text ends there
@@ -90,13 +86,11 @@ IsReportedOfProgram end tokens fault =
 
 -- what stands against a type text that sees these declarations, against a file of declarations, and
 -- against a program, its types aside
-abbrev pub RefusesType : Declarations → Bytes → TextFault → Type 0
-RefusesType declared text text_fault = Refuses AType (IsReportedOfType declared) text text_fault
+abbrev pub RefusesType : Declarations → Bytes → Refusal → Type 0
+RefusesType declared text found = Refuses AType (IsReportedOfType declared) text found
 
-abbrev pub RefusesDeclarations : Bytes → TextFault → Type 0
-RefusesDeclarations text text_fault =
-    Refuses SomeDeclarations IsReportedOfDeclarations text text_fault
+abbrev pub RefusesDeclarations : Bytes → Refusal → Type 0
+RefusesDeclarations text found = Refuses SomeDeclarations IsReportedOfDeclarations text found
 
-abbrev pub RefusesProgram : Bytes → TextFault → Type 0
-RefusesProgram text text_fault =
-    Refuses AProgram (IsReportedOfProgram (length text)) text text_fault
+abbrev pub RefusesProgram : Bytes → Refusal → Type 0
+RefusesProgram text found = Refuses AProgram (IsReportedOfProgram (length text)) text found

@@ -3,13 +3,12 @@ ghost use Rattle.std.specs.Prelude.{◌<◌};
 ghost use Rattle.cd_replies.specs.File.{IsFileRead, AreBytesRead};
 
 use cd_base::files::{Files, ReadError};
-use std::alloc::AllocError;
 
 /// How many bytes a file may have.
 pub const LARGEST: usize = 67_108_864;
 
 /// Why a file has no text.
-#[derive(Clone, Copy)]
+#[derive(Clone, Copy, Debug)]
 pub enum FileFault {
     /// It could not be read.
     Unread,
@@ -19,43 +18,45 @@ pub enum FileFault {
     NotUtf8(usize),
 }
 
-/// The text of a file, or why it has none.
+/// Why the text of a file was not read.
+#[derive(Clone, Copy, Debug)]
+pub enum FileError {
+    /// It has none.
+    Fault(FileFault),
+    /// Memory ran out.
+    Memory,
+}
+
+/// The text of a file.
 ///
 /// # Errors
 ///
-/// Want of memory.
-pub fn read_file<F: Files>(
-    files: &mut F,
-    name: &str,
-) -> Result<Result<String, FileFault>, AllocError>
+/// Why the file has none, or want of memory.
+pub fn read_file<F: Files>(files: &mut F, name: &str) -> Result<String, FileError>
     ensures { IsFileRead (F.state files.old) (F.state files.new) name.now result }
 {
-    let bytes = match bytes_of(files, name, LARGEST)? {
-        Ok(bytes) => bytes,
-        Err(fault) => return Ok(Err(fault)),
-    };
+    let bytes = bytes_of(files, name, LARGEST)?;
     match String::from_utf8(bytes) {
-        Ok(text) => Ok(Ok(text)),
-        Err(error) => Ok(Err(FileFault::NotUtf8(error.utf8_error().valid_up_to()))),
+        Ok(text) => Ok(text),
+        Err(error) => {
+            let valid = error.utf8_error().valid_up_to();
+            Err(FileError::Fault(FileFault::NotUtf8(valid)))
+        }
     }
 }
 
 // The bytes of a file that has at most so many, or why it gives none.
-fn bytes_of<F: Files>(
-    files: &mut F,
-    name: &str,
-    most: usize,
-) -> Result<Result<Vec<u8>, FileFault>, AllocError>
+fn bytes_of<F: Files>(files: &mut F, name: &str, most: usize) -> Result<Vec<u8>, FileError>
     requires { most < usize.MAX }
     ensures { AreBytesRead most (F.state files.old) (F.state files.new) name.now result }
 {
     let bytes = match files.read(name, most + 1) {
         Ok(bytes) => bytes,
-        Err(ReadError::Failed) => return Ok(Err(FileFault::Unread)),
-        Err(ReadError::Memory) => return Err(AllocError),
+        Err(ReadError::Failed) => return Err(FileError::Fault(FileFault::Unread)),
+        Err(ReadError::Memory) => return Err(FileError::Memory),
     };
     if bytes.len() > most {
-        return Ok(Err(FileFault::TooLarge));
+        return Err(FileError::Fault(FileFault::TooLarge));
     }
-    Ok(Ok(bytes))
+    Ok(bytes)
 }

@@ -3,16 +3,16 @@ ghost use Rattle.std.specs.Prelude.{◌≡◌, [], ◌++◌, IfOk, codes, string
 ghost use Rattle.cd_base.specs.declared.status.Status.TheVariants.{Done as IsDone, No as IsNo};
 ghost use Rattle.cd_replies.specs.Reply as reply;
 ghost use Rattle.cd_replies.specs.Reply.{says};
-ghost use Rattle.cd_replies.specs.Message.{reply_of, text_fault};
-ghost use Rattle.cd_replies.specs.File.{said_of};
+ghost use Rattle.cd_replies.specs.Message.{reply_of, IsSaidOfText};
+ghost use Rattle.cd_replies.specs.File.{said_of, IsSaidOfFile};
 
-use crate::file::FileFault;
+use crate::file::{FileError, FileFault};
 use crate::position::place;
-use crate::refusal::Refusal;
+use crate::refusal::{Refusal, RefusalError};
 use cd_base::status::Status;
 use cd_resolve::fault::NameFault;
+use cd_syntax::fault::TextFault;
 use cd_syntax::name::Name;
-use cd_syntax::tokens::LexError;
 use std::alloc::{AllocError, Global};
 
 const USAGE: &str =
@@ -72,12 +72,22 @@ fn not_utf8(alloc: Global, name: &str, byte: usize) -> Result<Message, AllocErro
     Ok(complaint(Status::NotUtf8, text))
 }
 
-/// What is said of a file that has no text.
+/// What is said of a file whose text was not read.
 ///
 /// # Errors
 ///
-/// Want of memory.
-pub fn no_text(alloc: Global, name: &str, fault: FileFault) -> Result<Message, AllocError>
+/// Want of memory, which the error may be.
+pub fn no_text(alloc: Global, name: &str, error: FileError) -> Result<Message, AllocError>
+    ensures { IfOk result (λ message. IsSaidOfFile name.now error (reply_of message)) }
+{
+    match error {
+        FileError::Fault(fault) => file_fault(alloc, name, fault),
+        FileError::Memory => Err(AllocError),
+    }
+}
+
+// What is said of a file that has no text.
+fn file_fault(alloc: Global, name: &str, fault: FileFault) -> Result<Message, AllocError>
     ensures { IfOk result (λ message. reply_of message ≡ said_of name.now fault) }
 {
     match fault {
@@ -87,25 +97,38 @@ pub fn no_text(alloc: Global, name: &str, fault: FileFault) -> Result<Message, A
     }
 }
 
-/// What is said of a text where this stands against it; its origin is the name of its file, or `T1`
-/// or `T2`.
+/// What is said of a text that was not read; its origin is the name of its file, or `T1` or `T2`.
 ///
 /// # Errors
 ///
-/// Want of memory.
+/// Want of memory, which the error may be.
 pub fn refused(
+    alloc: Global,
+    origin: &str,
+    text: &str,
+    error: RefusalError,
+) -> Result<Message, AllocError>
+    ensures { IfOk result (λ message.
+        IsSaidOfText origin.now text.now error (reply_of message)) }
+{
+    match error {
+        RefusalError::Refused(refusal) => stands_against(alloc, origin, text, refusal),
+        RefusalError::Memory => Err(AllocError),
+    }
+}
+
+// What is said of a text where this stands against it.
+fn stands_against(
     alloc: Global,
     origin: &str,
     text: &str,
     refusal: Refusal,
 ) -> Result<Message, AllocError>
     ensures { IfOk result (λ message.
-        reply_of message ≡ reply.refusal origin.now text.now (text_fault refusal)) }
+        reply_of message ≡ reply.refusal origin.now text.now refusal) }
 {
     match refusal {
-        Refusal::Lexical(fault) => lexical(alloc, origin, text, fault),
-        Refusal::Syntax(at) => at_place(alloc, Status::Syntax, origin, text, at, "syntax"),
-        Refusal::TooDeep(at) => at_place(alloc, Status::TooDeep, origin, text, at, "too deep"),
+        Refusal::Text(fault) => text_fault(alloc, origin, text, fault),
         Refusal::Naming { fault, name, at } => naming(alloc, origin, text, fault, &name, at),
     }
 }
@@ -144,17 +167,39 @@ fn naming_message(alloc: Global, fault: NameFault, name: &str) -> Result<String,
     }
 }
 
-fn lexical(alloc: Global, origin: &str, text: &str, fault: LexError) -> Result<Message, AllocError>
-    ensures { IfOk result (λ message. reply_of message ≡ reply.lexical origin.now text.now fault) }
+// What is said of a fault of a text.
+fn text_fault(
+    alloc: Global,
+    origin: &str,
+    text: &str,
+    fault: TextFault,
+) -> Result<Message, AllocError>
+    ensures { IfOk result (λ message.
+        reply_of message ≡ reply.text_fault origin.now text.now fault) }
 {
-    let (at, message) = match fault {
-        LexError::BadChar(at) => (at, "bad character"),
-        LexError::OpenText(at) => (at, "text not closed"),
-        LexError::OpenComment(at) => (at, "comment not closed"),
-        LexError::TooWide(at) => (at, "number too wide"),
-        LexError::Memory => return Err(AllocError),
-    };
-    at_place(alloc, Status::Lexical, origin, text, at, message)
+    match fault {
+        TextFault::BadChar(at) => {
+            at_place(alloc, Status::Lexical, origin, text, at, "bad character")
+        }
+        TextFault::OpenText(at) => {
+            at_place(alloc, Status::Lexical, origin, text, at, "text not closed")
+        }
+        TextFault::OpenComment(at) => {
+            at_place(
+                alloc,
+                Status::Lexical,
+                origin,
+                text,
+                at,
+                "comment not closed",
+            )
+        }
+        TextFault::TooWide(at) => {
+            at_place(alloc, Status::Lexical, origin, text, at, "number too wide")
+        }
+        TextFault::Syntax(at) => at_place(alloc, Status::Syntax, origin, text, at, "syntax"),
+        TextFault::TooDeep(at) => at_place(alloc, Status::TooDeep, origin, text, at, "too deep"),
+    }
 }
 
 // What is said of a place of a text.

@@ -1,7 +1,5 @@
 //! What texts read as, and nodes for it.
-ghost use Rattle.std.specs.Prelude.{◌≡◌, ◌+◌, ◌≤◌, ◌++◌, false, length, IfOk, IfErr, MatchResult};
-ghost use Rattle.std.specs.Str.{chars};
-ghost use Rattle.cd_syntax.specs.Faults.{HasFirstFault};
+ghost use Rattle.std.specs.Prelude.{◌≡◌, ◌+◌, ◌≤◌, ◌++◌, length, IfOk, IfErr, OnOk};
 ghost use Rattle.cd_syntax.specs.PlainTree.{plain_declarations};
 ghost use Rattle.cd_syntax.specs.WellMade.{AreWellMadeDeclarations};
 ghost use Rattle.cd_program.specs.PlainProgram.{plain_program};
@@ -12,175 +10,108 @@ ghost use Rattle.cd_model.specs.Formula.{Graph as PlainGraph, IsFormula};
 ghost use Rattle.cd_graph.specs.Nodes.{nodes};
 ghost use Rattle.cd_graph.specs.PlainFormula.{plain_list};
 ghost use Rattle.cd_resolve.specs.Named.{AreNamed, plain_names, declared_by};
-ghost use Rattle.cd_replies.specs.Message.{text_fault};
 ghost use Rattle.cd_replies.specs.Naming.{Writes, AreNamedWell, RefusesNames, StandsForText};
-ghost use Rattle.cd_replies.specs.Inner.Refusal.{IsOfFault, IsOfNames};
-ghost use Rattle.cd_replies.specs.Texts.{HasTokens, RefusesType, RefusesDeclarations};
+ghost use Rattle.cd_replies.specs.Refusals.{IfRefused};
+ghost use Rattle.cd_replies.specs.Texts.{RefusesType, RefusesDeclarations};
 ghost use Rattle.cd_replies.specs.Texts.{ReadsAsProgram, RefusesProgram};
 
-use crate::refusal::Refusal;
+use crate::refusal::RefusalError;
 use cd_graph::Graph;
 use cd_lex::lex;
 use cd_names::check_program;
-use cd_parser::{ParseError, parse_declarations, parse_program, parse_type};
+use cd_parser::{parse_declarations, parse_program, parse_type};
 use cd_program::program::Program;
-use cd_resolve::error::NameError;
 use cd_resolve::{Batch, Names, TypeBatch, resolve, resolve_type};
-use cd_syntax::tokens::{LexError, Token};
 use cd_syntax::type_tree::Declarations;
-use std::alloc::{AllocError, Global};
+use std::alloc::Global;
 
-/// The type declarations that a text is written as, or what stands against it, their names aside.
+/// The type declarations that a text is written as.
 ///
 /// # Errors
 ///
-/// Want of memory.
-pub fn read_declarations(
-    alloc: Global,
-    text: &str,
-) -> Result<Result<Declarations, Refusal>, AllocError>
-    ensures read { IfOk result (λ read. MatchResult read
-        (λ declared. Writes text.now (plain_declarations declared))
-        (λ refusal. RefusesDeclarations text.now (text_fault refusal))) }
-    ensures well_made { IfOk result (λ read. IfOk read
-        (λ declared. AreWellMadeDeclarations (plain_declarations declared))) }
+/// What stands against the text, its names aside, or want of memory.
+pub fn read_declarations(alloc: Global, text: &str) -> Result<Declarations, RefusalError>
+    ensures read { IfOk result (λ declared. Writes text.now (plain_declarations declared)) }
+    ensures well_made { IfOk result
+        (λ declared. AreWellMadeDeclarations (plain_declarations declared)) }
+    ensures refused { IfErr result (λ error. IfRefused error (RefusesDeclarations text.now)) }
 {
-    let tokens = match tokens(alloc, text)? {
-        Ok(tokens) => tokens,
-        Err(fault) => return Ok(Err(Refusal::Lexical(fault))),
-    };
-    match parse_declarations(alloc, tokens.as_slice(), text.len()) {
-        Ok(declared) => Ok(Ok(declared)),
-        Err(error) => Ok(Err(refusal_of(error)?)),
-    }
+    let tokens = lex(alloc, text)?;
+    let declared = parse_declarations(alloc, tokens.as_slice(), text.len())?;
+    Ok(declared)
 }
 
-/// The program that a text reads as, or what stands against it, its types aside.
+/// The program that a text reads as.
 ///
 /// # Errors
 ///
-/// Want of memory.
-pub fn read_program(alloc: Global, text: &str) -> Result<Result<Program, Refusal>, AllocError>
-    ensures read { IfOk result (λ read. MatchResult read
-        (λ program. ReadsAsProgram text.now (plain_program program))
-        (λ refusal. RefusesProgram text.now (text_fault refusal))) }
-    ensures well_made { IfOk result (λ read. IfOk read
-        (λ program. IsWellMadeProgram (plain_program program))) }
+/// What stands against the text, its types aside, or want of memory.
+pub fn read_program(alloc: Global, text: &str) -> Result<Program, RefusalError>
+    ensures read { IfOk result (λ program. ReadsAsProgram text.now (plain_program program)) }
+    ensures well_made { IfOk result (λ program. IsWellMadeProgram (plain_program program)) }
+    ensures refused { IfErr result (λ error. IfRefused error (RefusesProgram text.now)) }
 {
-    let tokens = match tokens(alloc, text)? {
-        Ok(tokens) => tokens,
-        Err(fault) => return Ok(Err(Refusal::Lexical(fault))),
-    };
-    let program = match parse_program(alloc, tokens.as_slice(), text.len()) {
-        Ok(program) => program,
-        Err(error) => return Ok(Err(refusal_of(error)?)),
-    };
-    match check_program(alloc, &program) {
-        Ok(()) => Ok(Ok(program)),
-        Err(error) => Ok(Err(refusal_of_names(error)?)),
-    }
+    let tokens = lex(alloc, text)?;
+    let program = parse_program(alloc, tokens.as_slice(), text.len())?;
+    check_program(alloc, &program)?;
+    Ok(program)
 }
 
-/// Nodes for type declarations, which see one another and no others, or the naming fault that is
-/// reported of them. Where the formulas are put after those of a graph of `first` nodes that begins
-/// with the built-in ones, the node of each name stands for its type.
+/// Nodes for type declarations, which see one another and no others. Where the formulas are put
+/// after those of a graph of `first` nodes that begins with the built-in ones, the node of each
+/// name stands for its type.
 ///
 /// # Errors
 ///
-/// Want of memory.
+/// The naming fault that is reported of the declarations, or want of memory.
 pub fn name_declarations<'t>(
     alloc: Global,
     first: usize,
     declared: &'t Declarations,
-) -> Result<Result<Batch<'t>, Refusal>, AllocError>
+) -> Result<Batch<'t>, RefusalError>
     requires well_made { AreWellMadeDeclarations (plain_declarations declared.now) }
     requires built_ins { 14 ≤ first }
-    ensures named { IfOk result (λ named. MatchResult named
-        (λ batch. AreNamedWell (plain_declarations declared.now))
-        (λ refusal. RefusesNames (plain_declarations declared.now) (text_fault refusal))) }
-    ensures formulas { IfOk result (λ named. IfOk named
-        (λ batch. AllOf (IsFormula (first + length (plain_list batch.formulas)))
-        (plain_list batch.formulas))) }
-    ensures names { IfOk result (λ named. IfOk named (λ batch. plain_names batch.names
-        ≡ record { declarations = plain_declarations declared.now; first = first })) }
-    ensures stand { IfOk result (λ named. IfOk named
-        (λ batch. (graph : PlainGraph) → length graph ≡ first
+    ensures named { OnOk result (AreNamedWell (plain_declarations declared.now)) }
+    ensures formulas { IfOk result (λ batch.
+        AllOf (IsFormula (first + length (plain_list batch.formulas)))
+        (plain_list batch.formulas)) }
+    ensures names { IfOk result (λ batch. plain_names batch.names
+        ≡ record { declarations = plain_declarations declared.now; first = first }) }
+    ensures stand { IfOk result (λ batch. (graph : PlainGraph) → length graph ≡ first
         → ((more : PlainGraph) × (graph ≡ built_ins ++ more))
-        → AreNamed (graph ++ plain_list batch.formulas) (plain_names batch.names))) }
+        → AreNamed (graph ++ plain_list batch.formulas) (plain_names batch.names)) }
+    ensures refused { IfErr result
+        (λ error. IfRefused error (RefusesNames (plain_declarations declared.now))) }
 {
-    match resolve(alloc, first, declared) {
-        Ok(batch) => Ok(Ok(batch)),
-        Err(error) => Ok(Err(refusal_of_names(error)?)),
-    }
+    let batch = resolve(alloc, first, declared)?;
+    Ok(batch)
 }
 
-/// A node, for this graph, of the type that a text reads as, which sees declared names, or what
-/// stands against the text. Where the formulas are put after those of the graph, the root stands
-/// for the type.
+/// A node, for this graph, of the type that a text reads as, which sees declared names. Where the
+/// formulas are put after those of the graph, the root stands for the type.
 ///
 /// # Errors
 ///
-/// Want of memory.
+/// What stands against the text, or want of memory.
 pub fn read_type(
     alloc: Global,
     graph: &Graph,
     names: &Names<'_>,
     text: &str,
-) -> Result<Result<TypeBatch, Refusal>, AllocError>
+) -> Result<TypeBatch, RefusalError>
     requires names_sound { AreNamedWell (declared_by names.now) }
     requires named { AreNamed (nodes graph.now) (plain_names names.now) }
-    ensures read { IfOk result (λ read. MatchResult read
-        (λ batch. StandsForText (nodes graph.now ++ plain_list batch.formulas) batch.root
-        (declared_by names.now) text.now)
-        (λ refusal. RefusesType (declared_by names.now) text.now (text_fault refusal))) }
-    ensures formulas { IfOk result (λ read. IfOk read (λ batch.
+    ensures read { IfOk result (λ batch.
+        StandsForText (nodes graph.now ++ plain_list batch.formulas) batch.root
+        (declared_by names.now) text.now) }
+    ensures formulas { IfOk result (λ batch.
         AllOf (IsFormula (length (nodes graph.now) + length (plain_list batch.formulas)))
-        (plain_list batch.formulas))) }
+        (plain_list batch.formulas)) }
+    ensures refused { IfErr result
+        (λ error. IfRefused error (RefusesType (declared_by names.now) text.now)) }
 {
-    let tokens = match tokens(alloc, text)? {
-        Ok(tokens) => tokens,
-        Err(fault) => return Ok(Err(Refusal::Lexical(fault))),
-    };
-    let tree = match parse_type(alloc, tokens.as_slice(), text.len()) {
-        Ok(tree) => tree,
-        Err(error) => return Ok(Err(refusal_of(error)?)),
-    };
-    match resolve_type(alloc, graph, names, &tree) {
-        Ok(batch) => Ok(Ok(batch)),
-        Err(error) => Ok(Err(refusal_of_names(error)?)),
-    }
-}
-
-// What a fault of syntax is against its text.
-fn refusal_of(error: ParseError) -> Result<Refusal, AllocError>
-    ensures { IsOfFault error result }
-{
-    match error {
-        ParseError::Syntax(place) => Ok(Refusal::Syntax(place)),
-        ParseError::TooDeep(place) => Ok(Refusal::TooDeep(place)),
-        ParseError::Memory => Err(AllocError),
-    }
-}
-
-// What a naming fault is against its text.
-fn refusal_of_names(error: NameError) -> Result<Refusal, AllocError>
-    ensures { IsOfNames error result }
-{
-    match error {
-        NameError::Fault { fault, name, at } => Ok(Refusal::Naming { fault, name, at }),
-        NameError::Memory => Err(AllocError),
-    }
-}
-
-// The tokens of a text, or its first lexical fault.
-fn tokens(alloc: Global, text: &str) -> Result<Result<Vec<Token>, LexError>, AllocError>
-    ensures { IfOk result (λ read.
-        MatchResult read (λ tokens. HasTokens text.now tokens.items)
-        (λ fault. HasFirstFault false 0 (chars text.now) fault)) }
-{
-    match lex(alloc, text) {
-        Ok(tokens) => Ok(Ok(tokens)),
-        Err(LexError::Memory) => Err(AllocError),
-        Err(fault) => Ok(Err(fault)),
-    }
+    let tokens = lex(alloc, text)?;
+    let tree = parse_type(alloc, tokens.as_slice(), text.len())?;
+    let batch = resolve_type(alloc, graph, names, &tree)?;
+    Ok(batch)
 }

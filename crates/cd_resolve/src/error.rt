@@ -1,13 +1,11 @@
 use crate::fault::NameFault;
 use cd_syntax::name::Name;
 use std::alloc::AllocError;
-use thiserror::Error;
 
 /// Why the names of what is written are refused.
-#[derive(Debug, Drop, Error)]
+#[derive(Debug, Drop)]
 pub enum NameError {
     /// A fault, the name that it is reported of, and its place.
-    #[error("{fault}: {name}")]
     Fault {
         /// What is wrong.
         fault: NameFault,
@@ -17,7 +15,6 @@ pub enum NameError {
         at: usize,
     },
     /// Memory ran out.
-    #[error("memory ran out")]
     Memory,
 }
 

@@ -12,13 +12,14 @@ use Rattle.cd_replies.specs.Reply.{Reply, cannot_read}
 use Rattle.cd_replies.specs.Naming.{StandsForText}
 use Rattle.cd_replies.specs.Texts.{RefusesDeclarations}
 use Rattle.cd_replies.specs.Disk.{Disk, HasText, unreadable, known_disk, unreadable_disk}
-use Rattle.cd_replies.proofs.Messages.{replies}
+use Rattle.cd_replies.proofs.Messages.{replies, nothing_said}
 use Rattle.cd_replies.proofs.FilesEncountered.{has_text, encountered_same, FaultMet, failed, granted, fault_encountered}
 use Rattle.cd_sub.specs.SubAnswer.{SubAnswer, yes, no, SubTypesAnswer, file_refused}
 use Rattle.cd_sub.specs.Inner.Comparing.{ComparesNodes, within, outside}
 use Rattle.cd_replies.specs.Message.{IsAnswer, reply_of}
-use Rattle.cd_replies.specs.File.{IsFileRead, said_of}
-use Rattle.cd_replies.specs.declared.file.FileFault.{FileFault}
+use Rattle.cd_replies.specs.File.{IsFileRead, IsSaidOfFile, said_of}
+use Rattle.cd_replies.specs.declared.file.FileError.{FileError}
+use Rattle.cd_replies.specs.declared.file.FileError.TheVariants.{Fault, Memory}
 use Rattle.cd_replies.specs.declared.message.Message.{Message}
 
 -- what is reported of two nodes, which stand for what texts read as, is the answer
@@ -51,13 +52,16 @@ answers_encountered old new name text1 text2 _ (granted same reply refusal) r sa
   replies r reply (SubTypesAnswer (known_disk old) name text1 text2) said (file_refused reply refusal),
 )
 
-pub answers_fault : (old new : FilesState) (name text1 text2 : Bytes) (fault : FileFault) → IsFileRead old new name (Ok (Err fault))
-    → (r : Result Message AllocError) → IfOk r (λ message. reply_of message ≡ said_of name fault) → IsAnswer (λ disk. SubTypesAnswer disk name text1 text2) old new r
-answers_fault old new name text1 text2 fault is r said =
+pub answers_error : (old new : FilesState) (name text1 text2 : Bytes) (error : FileError) → IsFileRead old new name (Err error)
+    → (r : Result Message AllocError) → IfOk r (λ message. IsSaidOfFile name error (reply_of message))
+    → IsAnswer (λ disk. SubTypesAnswer disk name text1 text2) old new r
+answers_error old new name text1 text2 (Fault fault) is r said =
     answers_encountered old new name text1 text2 (said_of name fault) (fault_encountered RefusesDeclarations old new name fault is) r said
+answers_error old new name text1 text2 Memory is r said =
+    (known_disk old, encountered_same old new is, nothing_said r (SubTypesAnswer (known_disk old) name text1 text2) said)
 
 -- and so is what is said where it has one
-pub answers_text : (old new : FilesState) (name text1 text2 : Bytes) (text : String Global) → IsFileRead old new name (Ok (Ok text))
+pub answers_text : (old new : FilesState) (name text1 text2 : Bytes) (text : String Global) → IsFileRead old new name (Ok text)
     → (r : Result Message AllocError) → IfOk r (λ message. (disk : Disk) → HasText disk name (string_bytes text) → SubTypesAnswer disk name text1 text2 (reply_of message))
     → IsAnswer (λ disk. SubTypesAnswer disk name text1 text2) old new r
 answers_text old new name text1 text2 text is (Ok message) said = (
@@ -66,7 +70,3 @@ answers_text old new name text1 text2 text is (Ok message) said = (
   said (known_disk old) (has_text old new name text is),
 )
 answers_text old new name text1 text2 text is (Err error) said = (known_disk old, encountered_same old new is.0, tt)
-
-pub answers_nothing : (old new : FilesState) (name text1 text2 : Bytes) (error : AllocError) → IsFileRead old new name (Err error)
-    → IsAnswer (λ disk. SubTypesAnswer disk name text1 text2) old new (Err error)
-answers_nothing old new name text1 text2 error is = (known_disk old, encountered_same old new is, tt)

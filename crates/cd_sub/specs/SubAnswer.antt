@@ -7,17 +7,18 @@ use Rattle.cd_model.specs.Canonical.{canonical}
 use Rattle.cd_model.specs.Written.{Written}
 use Rattle.cd_replies.specs.Bytes.{Bytes}
 use Rattle.cd_replies.specs.Reply.{Reply, says, refusal}
-use Rattle.cd_replies.specs.Texts.{TextFault, ReadsAs, Declares, RefusesType, RefusesDeclarations}
+use Rattle.cd_replies.specs.Texts.{ReadsAs, Declares, RefusesType, RefusesDeclarations}
 use Rattle.cd_replies.specs.Disk.{Disk, HasText, FileRefusal}
 use Rattle.cd_replies.specs.Within.{IsIn, IsOutside, IsWithin}
+use Rattle.cd_replies.specs.declared.refusal.Refusal.{Refusal}
 
 -- the answers of `sub` on two texts, which see these declarations; the first text is taken first
 pub data SubAnswer (declared : Declarations) (text1 text2 : Bytes) : Reply → Type 0 where
-  first_refused : (text_fault : TextFault) → RefusesType declared text1 text_fault
-      → SubAnswer declared text1 text2 (refusal (codes "T1") text1 text_fault)
-  second_refused : (first : Written) → ReadsAs declared text1 first → (text_fault : TextFault)
-      → RefusesType declared text2 text_fault
-      → SubAnswer declared text1 text2 (refusal (codes "T2") text2 text_fault)
+  first_refused : (found : Refusal) → RefusesType declared text1 found
+      → SubAnswer declared text1 text2 (refusal (codes "T1") text1 found)
+  second_refused : (first : Written) → ReadsAs declared text1 first → (found : Refusal)
+      → RefusesType declared text2 found
+      → SubAnswer declared text1 text2 (refusal (codes "T2") text2 found)
   -- yes: each element of the first type is in the second
   yes : (first second : Written) → ReadsAs declared text1 first → ReadsAs declared text2 second
       → IsWithin first second

@@ -1,17 +1,18 @@
 //! The command `sub`: whether one type is within another.
 #![tactic(auto)]
 
-ghost use Rattle.std.specs.Prelude.{◌≡◌, IfOk, MatchResult};
+ghost use Rattle.std.specs.Prelude.{◌≡◌, IfOk, IfErr, OnOk};
 ghost use Rattle.cd_syntax.specs.PlainTree.{plain_declarations};
 ghost use Rattle.cd_syntax.specs.TypeTree.{NoDeclaration};
 ghost use Rattle.cd_syntax.specs.WellMade.{AreWellMadeDeclarations};
 ghost use Rattle.cd_model.specs.Formula.{IsGraph};
 ghost use Rattle.cd_resolve.specs.Named.{AreNamed, plain_names, declared_by};
 ghost use Rattle.cd_empty.specs.Seen.{graph_of};
-ghost use Rattle.cd_replies.specs.Message.{IsAnswer, text_fault, reply_of};
+ghost use Rattle.cd_replies.specs.Message.{IsAnswer, reply_of};
 ghost use Rattle.cd_replies.specs.Disk.{Disk, HasText};
 ghost use Rattle.cd_replies.specs.File.{ReadsThere};
 ghost use Rattle.cd_replies.specs.Naming.{AreNamedWell, RefusesNames};
+ghost use Rattle.cd_replies.specs.Refusals.{IfRefused};
 ghost use Rattle.cd_sub.specs.SubAnswer.{SubAnswer, SubTypesAnswer};
 
 use cd_base::files::Files;
@@ -20,7 +21,7 @@ use cd_replies::file::read_file;
 use cd_replies::message::{Message, no_text, refused};
 use cd_replies::naming::declare;
 use cd_replies::reader::read_declarations;
-use cd_replies::refusal::Refusal;
+use cd_replies::refusal::RefusalError;
 use cd_resolve::Names;
 use cd_syntax::type_tree::Declarations;
 use compare::compare_nodes;
@@ -40,9 +41,10 @@ pub fn sub(alloc: Global, first: &str, second: &str) -> Result<Message, AllocErr
         SubAnswer NoDeclaration first.now second.now (reply_of message)) }
 {
     let none = Declarations::of(Vec::new(alloc));
-    match sub_with(alloc, &none, first, second)? {
+    match sub_with(alloc, &none, first, second) {
         Ok(message) => Ok(message),
-        Err(_) => unreachable!(),
+        Err(RefusalError::Memory) => Err(AllocError),
+        Err(RefusalError::Refused(_)) => unreachable!(),
     }
 }
 
@@ -64,9 +66,8 @@ pub fn sub_types<F: Files>(
     ensures read { ReadsThere (F.state files.old) (F.state files.new) file.now }
 {
     match read_file(files, file) {
-        Err(error) => Err(error),
-        Ok(Err(fault)) => no_text(alloc, file, fault),
-        Ok(Ok(text)) => with_file(alloc, file, text.as_str(), first, second),
+        Ok(text) => with_file(alloc, file, text.as_str(), first, second),
+        Err(error) => no_text(alloc, file, error),
     }
 }
 
@@ -81,13 +82,13 @@ fn with_file(
     ensures { IfOk result (λ message. (disk : Disk) → HasText disk file.now text.now
         → SubTypesAnswer disk file.now first.now second.now (reply_of message)) }
 {
-    let declared = match read_declarations(alloc, text)? {
+    let declared = match read_declarations(alloc, text) {
         Ok(declared) => declared,
-        Err(refusal) => return refused(alloc, file, text, refusal),
+        Err(error) => return refused(alloc, file, text, error),
     };
-    match sub_with(alloc, &declared, first, second)? {
+    match sub_with(alloc, &declared, first, second) {
         Ok(message) => Ok(message),
-        Err(fault) => refused(alloc, file, text, fault),
+        Err(error) => refused(alloc, file, text, error),
     }
 }
 
@@ -98,20 +99,18 @@ fn sub_with(
     declared: &Declarations,
     first: &str,
     second: &str,
-) -> Result<Result<Message, Refusal>, AllocError>
+) -> Result<Message, RefusalError>
     requires { AreWellMadeDeclarations (plain_declarations declared.now) }
-    ensures answer { IfOk result (λ said. MatchResult said
-        (λ message.
-        SubAnswer (plain_declarations declared.now) first.now second.now (reply_of message))
-        (λ refusal. RefusesNames (plain_declarations declared.now) (text_fault refusal))) }
-    ensures sound { IfOk result
-        (λ said. IfOk said (λ _. AreNamedWell (plain_declarations declared.now))) }
+    ensures answer { IfOk result (λ message.
+        SubAnswer (plain_declarations declared.now) first.now second.now (reply_of message)) }
+    ensures sound { OnOk result (AreNamedWell (plain_declarations declared.now)) }
+    ensures refused { IfErr result
+        (λ error. IfRefused error (RefusesNames (plain_declarations declared.now))) }
 {
     let mut world = World::new(alloc)?;
-    match declare(alloc, &mut world, declared)? {
-        Ok(names) => Ok(Ok(with_names(alloc, &mut world, &names, first, second)?)),
-        Err(refusal) => Ok(Err(refusal)),
-    }
+    let names = declare(alloc, &mut world, declared)?;
+    let message = with_names(alloc, &mut world, &names, first, second)?;
+    Ok(message)
 }
 
 // Whether the first type text is within the second, where they see names that have nodes.
@@ -128,13 +127,13 @@ fn with_names(
     ensures { IfOk result (λ message.
         SubAnswer (declared_by names.now) first.now second.now (reply_of message)) }
 {
-    let left = match node(alloc, world, names, first)? {
+    let left = match node(alloc, world, names, first) {
         Ok(left) => left,
-        Err(refusal) => return refused(alloc, "T1", first, refusal),
+        Err(error) => return refused(alloc, "T1", first, error),
     };
-    let right = match node(alloc, world, names, second)? {
+    let right = match node(alloc, world, names, second) {
         Ok(right) => right,
-        Err(refusal) => return refused(alloc, "T2", second, refusal),
+        Err(error) => return refused(alloc, "T2", second, error),
     };
     compare_nodes(alloc, world, left, right)
 }

@@ -1,3 +1,4 @@
+pub mod TextErrors
 pub mod Spelled
 pub mod SameNames
 mod Comparing

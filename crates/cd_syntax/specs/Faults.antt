@@ -1,12 +1,14 @@
--- Why a text has no tokens.
+-- Why a text is not read, and why it has no tokens.
 use Rattle.std.specs.Prelude.{◌≡◌, ℕ, pos, ◌+◌, ◌==◌, ◌||◌, not, neg_ℤ, Bool, true, false, List}
 use Rattle.std.specs.Prelude.{◌∷◌, ◌++◌}
 use Rattle.std.specs.Char.{is_ascii_digit}
 use Rattle.cd_syntax.specs.declared.sign.Sign.{Sign}
 use Rattle.cd_syntax.specs.declared.tokens.TokenKind.{TokenKind}
-use Rattle.cd_syntax.specs.declared.tokens.LexError.{LexError}
-use Rattle.cd_syntax.specs.declared.tokens.LexError.TheVariants.{BadChar, OpenText, OpenComment}
-use Rattle.cd_syntax.specs.declared.tokens.LexError.TheVariants.{TooWide}
+use Rattle.cd_syntax.specs.declared.fault.TextError.{TextError}
+use Rattle.cd_syntax.specs.declared.fault.TextError.TheVariants.{Fault, Memory}
+use Rattle.cd_syntax.specs.declared.fault.TextFault.{TextFault}
+use Rattle.cd_syntax.specs.declared.fault.TextFault.TheVariants.{BadChar, OpenText, OpenComment}
+use Rattle.cd_syntax.specs.declared.fault.TextFault.TheVariants.{TooWide}
 use Rattle.cd_syntax.specs.Integer.{IsInteger}
 use Rattle.cd_syntax.specs.Name.{begins_word, IsLabel}
 use Rattle.cd_syntax.specs.Numerals.{IsNumeral, begins_number}
@@ -14,6 +16,11 @@ use Rattle.cd_syntax.specs.Signs.{BeginsWith}
 use Rattle.cd_syntax.specs.Quotes.{Quotes, BeginsNoEscape, EndsHalf}
 use Rattle.cd_syntax.specs.Comments.{IsComment}
 use Rattle.cd_syntax.specs.Tokens.{is_blank, EndsWord, bytes, IsDropped, IsLexemeOf, joins}
+
+-- the text is refused by such a fault, or memory ran out
+abbrev pub IfFault : TextError → (such : TextFault → Type 0) → Type 0
+IfFault (Fault fault) such = such fault
+IfFault Memory such = Unit {0}
 
 -- `"` or `'`
 abbrev pub is_quote : ℕ → Bool
@@ -24,7 +31,7 @@ abbrev pub is_other : ℕ → Bool
 is_other c = not (is_blank c || begins_word c || is_ascii_digit c || is_quote c)
 
 -- the text, which begins at this byte, has a fault at its start
-pub data HasFaultHere (joined : Bool) (at : ℕ) : List ℕ → LexError → Type 0 where
+pub data HasFaultHere (joined : Bool) (at : ℕ) : List ℕ → TextFault → Type 0 where
   -- a character that begins no token; a `#` may begin a number
   character : (c : ℕ) (text : List ℕ) → is_other c ≡ true → begins_number (c ∷ text) ≡ false
       → ((is : Sign) → BeginsWith (c ∷ text) is → ⊥)
@@ -49,15 +56,15 @@ pub data HasFaultHere (joined : Bool) (at : ℕ) : List ℕ → LexError → Typ
 
 -- this is the first fault of the text, which begins at this byte: tokens and what is dropped stand
 -- before it
-pub data HasFirstFault : (joined : Bool) (at : ℕ) → List ℕ → LexError → Type 0 where
-  here : (joined : Bool) (at : ℕ) (text : List ℕ) (fault : LexError)
+pub data HasFirstFault : (joined : Bool) (at : ℕ) → List ℕ → TextFault → Type 0 where
+  here : (joined : Bool) (at : ℕ) (text : List ℕ) (fault : TextFault)
       → HasFaultHere joined at text fault
       → HasFirstFault joined at text fault
-  after_dropped : (joined : Bool) (at : ℕ) (written text : List ℕ) (fault : LexError)
+  after_dropped : (joined : Bool) (at : ℕ) (written text : List ℕ) (fault : TextFault)
       → IsDropped written
       → HasFirstFault false (at + bytes written) text fault
       → HasFirstFault joined at (written ++ text) fault
   after_token : (joined : Bool) (at : ℕ) (written text : List ℕ) (kind : TokenKind)
-      (fault : LexError) → IsLexemeOf joined written text kind
+      (fault : TextFault) → IsLexemeOf joined written text kind
       → HasFirstFault (joins kind) (at + bytes written) text fault
       → HasFirstFault joined at (written ++ text) fault

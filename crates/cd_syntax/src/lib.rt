@@ -1,9 +1,10 @@
-//! What is written: names, tokens and the trees of types, and how texts lex to tokens. The
-//! definitions stand in `specs/`.
+//! What is written: names, tokens and the trees of types, how texts lex to tokens, and what stands
+//! against a text. The definitions stand in `specs/`.
 #![tactic(auto)]
 
 pub mod builtin;
 pub mod constant;
+pub mod fault;
 mod make;
 pub mod name;
 pub mod order;

@@ -5,7 +5,6 @@ ghost use Rattle.cd_syntax.specs.Name.{first, only, is_type_name as is_type_name
 ghost use Rattle.cd_syntax.specs.ComparingNames.{name_input, names_equiv, names_alike};
 
 use std::alloc::{AllocError, Global};
-use std::fmt;
 use std::hash::{Hash, Hasher};
 use std::marker::Model;
 
@@ -98,12 +97,6 @@ impl Name {
         ensures { IfOk result (λ name. name ≡ self.now) }
     {
         Name::of(*self.text.allocator(), self.as_str())
-    }
-}
-
-impl fmt::Display for Name {
-    fn fmt<W: fmt::Write>(&self, f: &mut fmt::Formatter<W>) -> fmt::Result {
-        f.write_str(self.text.as_str())
     }
 }
 

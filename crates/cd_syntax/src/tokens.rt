@@ -1,7 +1,5 @@
 use crate::name::Name;
 use crate::sign::Sign;
-use std::alloc::AllocError;
-use thiserror::Error;
 
 /// Where a form stands in a text: the byte offset of its first character, and that of what follows
 /// its last one.
@@ -37,37 +35,4 @@ pub enum TokenKind {
     Atom(Name),
     /// A sign.
     Sign(Sign),
-}
-
-/// Why a text was not read as tokens. A place is the byte offset where the first fault of the text
-/// stands.
-#[derive(Clone, Copy, Debug, PartialEq, Eq, Error)]
-pub enum LexError {
-    /// A character that begins no token, or a `\` between quotes that no escape can begin with,
-    /// however the text goes on.
-    #[error("bad character")]
-    BadChar(usize),
-    /// A quote that no quote closes.
-    #[error("text not closed")]
-    OpenText(usize),
-    /// A `(*` that no `*)` closes.
-    #[error("comment not closed")]
-    OpenComment(usize),
-    /// The first character of a number that does not fit 128 bits, its sign if it has one.
-    #[error("number too wide")]
-    TooWide(usize),
-    /// Memory ran out.
-    #[error("memory ran out")]
-    Memory,
-}
-
-impl From<AllocError> for LexError {
-    ghost use Rattle.std.specs.Prelude.{◌≡◌};
-    ghost use Rattle.cd_syntax.specs.declared.tokens.LexError.TheVariants.{Memory};
-
-    ghost from_gives = { λ _ e. e ≡ Memory };
-
-    fn from(_error: AllocError) -> LexError {
-        LexError::Memory
-    }
 }

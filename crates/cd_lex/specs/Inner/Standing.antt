@@ -1,12 +1,9 @@
 -- What stands at the start of a text, and what is left after it.
-use Rattle.std.specs.Prelude.{◌≡◌, ℕ, ◌<◌, Bool, List, [], ◌∷◌, ◌++◌, length, ◌⊎◌}
+use Rattle.std.specs.Prelude.{◌≡◌, ℕ, ◌<◌, Bool, List, [], ◌∷◌, ◌++◌, length}
 use Rattle.cd_syntax.specs.declared.sign.Sign.{Sign}
 use Rattle.cd_syntax.specs.declared.tokens.TokenKind.{TokenKind}
-use Rattle.cd_syntax.specs.declared.tokens.LexError.{LexError}
-use Rattle.cd_syntax.specs.declared.tokens.LexError.TheVariants.{Memory}
 use Rattle.cd_syntax.specs.Signs.{characters, BeginsWith, IsLongest}
 use Rattle.cd_syntax.specs.Tokens.{IsDropped, IsLexemeOf}
-use Rattle.cd_syntax.specs.Faults.{HasFaultHere}
 use Rattle.cd_lex.specs.declared.piece.Piece.{Piece}
 use Rattle.cd_lex.specs.declared.piece.Piece.TheVariants.{Dropped, Token}
 use Rattle.cd_lex.specs.Lexing.{with_characters}
@@ -30,10 +27,6 @@ abbrev pub Stands : Bool → List ℕ → Piece → (new characters : List ℕ) 
 Stands joined text Dropped new spelled = IsDroppedTo text new
 Stands joined text (Token kind) new spelled =
     IsTokenTo joined text (with_characters kind spelled) new
-
--- memory ran out, or this fault stands at the start of the text, which begins at this byte
-abbrev pub IsErrorHere : Bool → ℕ → List ℕ → LexError → Type 0
-IsErrorHere joined at text error = (error ≡ Memory) ⊎ HasFaultHere joined at text error
 
 -- no sign stands first, but one that begins with `(` or `-`
 abbrev pub BeginsWithNoSign : List ℕ → Type 0

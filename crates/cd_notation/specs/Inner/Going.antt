@@ -1,10 +1,12 @@
 -- A text of which a prefix is read.
 use Rattle.std.specs.Prelude.{◌≡◌, ℕ, false, List, ◌⊎◌, Result, Ok, Err}
 use Rattle.cd_syntax.specs.declared.tokens.Token.{Token}
-use Rattle.cd_syntax.specs.declared.tokens.LexError.{LexError}
-use Rattle.cd_syntax.specs.declared.tokens.LexError.TheVariants as lex
+use Rattle.cd_syntax.specs.declared.fault.TextError.{TextError}
+use Rattle.cd_syntax.specs.declared.fault.TextError.TheVariants.{Fault}
+use Rattle.cd_syntax.specs.declared.fault.TextFault.{TextFault}
+use Rattle.cd_syntax.specs.declared.fault.TextFault.TheVariants.{Syntax}
 use Rattle.cd_syntax.specs.Tokens.{Lexes}
-use Rattle.cd_syntax.specs.Faults.{HasFirstFault}
+use Rattle.cd_syntax.specs.Faults.{IfFault, HasFirstFault}
 use Rattle.cd_documents.specs.Machine.{State, start, run}
 use Rattle.cd_documents.specs.Reading.{most_open}
 use Rattle.cd_cells.specs.declared.values.Values.{Values}
@@ -13,8 +15,6 @@ use Rattle.cd_lex.specs.declared.lexer.Lexer.{Lexer}
 use Rattle.cd_lex.specs.Lexing.{LexesOn, FailsOn}
 use Rattle.cd_notation.specs.declared.form.Expecting.{Expecting}
 use Rattle.cd_notation.specs.declared.form.Expecting.TheVariants.{Nothing}
-use Rattle.cd_notation.specs.declared.read.NotationError.{NotationError}
-use Rattle.cd_notation.specs.declared.read.NotationError.TheVariants.{Lex, Syntax, Memory}
 use Rattle.cd_notation.specs.declared.reader.Reader.{Reader}
 use Rattle.cd_notation.specs.Inner.Leading.{Stands}
 
@@ -30,25 +30,23 @@ pub record Going (text : List ℕ) (lexer : Lexer) (values : Values) (next : Exp
   pub now : State
   pub stands : Stands values next reader now
   pub makes : (rest : List Token) → LexesOn lexer rest → Makes text now rest
-  pub fails : (fault : LexError) → FailsOn lexer fault → HasFirstFault false 0 text fault
+  pub fails : (fault : TextFault) → FailsOn lexer fault → HasFirstFault false 0 text fault
 
 -- what is left of a text whose tokens alone matter
 pub record Passing (old lexer : Lexer) : Type 0 where
   pub lexes : (rest : List Token) → LexesOn lexer rest
       → (all : List Token) × LexesOn old all
-  pub fails : (fault : LexError) → FailsOn lexer fault → FailsOn old fault
+  pub fails : (fault : TextFault) → FailsOn lexer fault → FailsOn old fault
 
--- a fault of the lexer; want of memory is none
-abbrev pub of_lexer : LexError → NotationError
-of_lexer lex.Memory = Memory
-of_lexer fault = Lex fault
+-- the rest of a text has tokens and the first fault is the given one, or it is that of the rest
+abbrev pub IsFirstOf : Lexer → (given first : TextFault) → Type 0
+IsFirstOf lexer given first =
+    ((first ≡ given) × (tokens : List Token) × LexesOn lexer tokens) ⊎ FailsOn lexer first
 
--- the rest of a text has tokens and the error is this one, or it has none, or memory ran out
-abbrev pub IsRefusal : Lexer → (fault error : NotationError) → Type 0
-IsRefusal lexer fault error = ((error ≡ fault) × (tokens : List Token) × LexesOn lexer tokens)
-    ⊎ (error ≡ Memory) ⊎ ((first : LexError) × (error ≡ Lex first) × FailsOn lexer first)
+abbrev pub IsRefusal : Lexer → (given : TextFault) → TextError → Type 0
+IsRefusal lexer given error = IfFault error (IsFirstOf lexer given)
 
 -- the value at the end of a text
-abbrev pub ended_of : Expecting → ℕ → Result ValueId NotationError
+abbrev pub ended_of : Expecting → ℕ → Result ValueId TextError
 ended_of (Nothing id) end = Ok id
-ended_of _ end = Err (Syntax end)
+ended_of _ end = Err (Fault (Syntax end))

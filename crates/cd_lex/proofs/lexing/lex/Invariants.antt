@@ -4,8 +4,8 @@ use Rattle.cd_lex.specs.Lexing.{left}
 use Rattle.cd_lex.specs.Inner.Reading.{HasRead}
 use Rattle.cd_lex.proofs.lexing.lex.Given as goal
 
-abbrev pub invariant-loop-kind : goal.invariant-loop-kind
-invariant-loop-kind l = HasRead (chars l.fn.text) l.tokens.items l.lexer
+abbrev pub invariant-loop-tokens : goal.invariant-loop-tokens
+invariant-loop-tokens l = HasRead (chars l.fn.text) l.tokens.items l.lexer
 
-abbrev pub decreases-loop-kind : goal.decreases-loop-kind
-decreases-loop-kind l = length (left l.lexer)
+abbrev pub decreases-loop-tokens : goal.decreases-loop-tokens
+decreases-loop-tokens l = length (left l.lexer)

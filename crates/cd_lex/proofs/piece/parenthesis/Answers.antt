@@ -1,4 +1,4 @@
-use Rattle.std.proofs.Common.{inr, subst, sym, ◌∷◌}
+use Rattle.std.proofs.Common.{subst, sym, ◌∷◌}
 use Rattle.cd_syntax.specs.declared.sign.Sign.TheVariants as sign
 use Rattle.cd_syntax.specs.declared.tokens.TokenKind.TheVariants.{Sign}
 use Rattle.cd_lex.specs.Inner.Standing.{IsTokenTo}
@@ -11,7 +11,7 @@ returns-then-not-take_this-clause-piece c = λ joined characters.
     (parenthesis_stands joined c.args.cursor.now c.if-not-take_this.ensures.1)
 
 pub returns-then-not-close_comment-clause-fault : goal.returns-then-not-close_comment-clause-fault
-returns-then-not-close_comment-clause-fault c = λ joined. inr (comment_ends joined c.args.at _ _ c.if-not-take_this.ensures c.if-not-close_comment.ensures)
+returns-then-not-close_comment-clause-fault c = λ joined. comment_ends joined c.args.at _ _ c.if-not-take_this.ensures c.if-not-close_comment.ensures
 
 pub returns-clause-piece : goal.returns-clause-piece
 returns-clause-piece c = λ joined characters. comment_closes _ _ _ c.if-not-take_this.ensures c.if-not-close_comment.ensures

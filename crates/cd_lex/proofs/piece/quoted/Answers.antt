@@ -1,4 +1,4 @@
-use Rattle.std.proofs.Common.{inr, ap, ◌-◌, arith}
+use Rattle.std.proofs.Common.{ap, ◌-◌, arith}
 use Rattle.cd_lex.proofs.PiecePrefixes.{quoted_read, broken_within, text_open, text_breaks, a_quote}
 use Rattle.cd_lex.proofs.piece.quoted.Goals as goal
 
@@ -18,10 +18,10 @@ returns-in-Closed-clause-piece c = λ joined.
 pub returns-in-Breaks-clause-fault : goal.returns-in-Breaks-clause-fault
 returns-in-Breaks-clause-fault c = λ joined.
     let broken = rw c.in-Breaks.is at c.in_ok-read_quoted.ensures in
-    inr (text_breaks joined c.args.at c.args.quote c.args.end _ c.args.cursor.now c.read_quoted.new.cursor (a_quote c.args.quote c.requires.quote) broken c.requires.fits c.requires.at
-    (ap (λ bytes. c.args.end - bytes) c.bytes.ensures))
+    text_breaks joined c.args.at c.args.quote c.args.end _ c.args.cursor.now c.read_quoted.new.cursor (a_quote c.args.quote c.requires.quote) broken c.requires.fits c.requires.at
+    (ap (λ bytes. c.args.end - bytes) c.bytes.ensures)
 
 pub returns-in-Ends-clause-fault : goal.returns-in-Ends-clause-fault
 returns-in-Ends-clause-fault c = λ joined.
     let is_open = rw c.in-Ends.is at c.in_ok-read_quoted.ensures in
-    inr (text_open joined c.args.at c.args.quote c.args.cursor.now (a_quote c.args.quote c.requires.quote) is_open)
+    text_open joined c.args.at c.args.quote c.args.cursor.now (a_quote c.args.quote c.requires.quote) is_open

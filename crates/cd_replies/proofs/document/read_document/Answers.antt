@@ -1,7 +1,9 @@
-use Rattle.cd_replies.proofs.DocumentsRead.{has_text_fault}
+use Rattle.std.proofs.lemmas.Result.{err_from_is_err_and}
+use Rattle.cd_replies.proofs.DocumentsRead.{document_refused}
 use Rattle.cd_replies.proofs.document.read_document.Goals as goal
 
 -- the fault stands against the text
-pub returns-in_ok-refusal_of-in-Err-clause-read : goal.returns-in_ok-refusal_of-in-Err-clause-read
-returns-in_ok-refusal_of-in-Err-clause-read c =
-    has_text_fault c.args.text.now c.in-Err.error c.in-Err.ensures.fault c.in_ok-refusal_of-in-Err.field-0 c.in_ok-refusal_of-in-Err.ensures
+pub returns-in_err-id-clause-refused : goal.returns-in_err-id-clause-refused
+returns-in_err-id-clause-refused c =
+    let is = err_from_is_err_and c.from_residual.result c.from_residual.ensures.1 in
+    rw (is.1, is.2) (document_refused c.args.text.now c.in_err-id.field-0.0 c.in_err-id.ensures.fault)

@@ -1,3 +1,0 @@
--- What serves private functions. No public clause speaks of it.
-pub mod Refusal
-pub mod DocumentErrors
