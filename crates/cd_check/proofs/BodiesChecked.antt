@@ -1,24 +1,24 @@
 -- What comes to a body, and what is known of its variables and its type.
 use Rattle.std.proofs.Common.{◌≡◌, ◌<◌, sym, subst, ap, ◌∙◌, List, [], ◌∷◌, ◌++◌, length, append_assoc, append-nil, Option, Some, None, MatchOption}
+use Rattle.std.specs.declared.alloc.Global.{Global}
+use Rattle.std.specs.declared.vec.Vec.{Vec}
 use Rattle.cd_sets.specs.declared.node_id.NodeId.{NodeId}
-use Rattle.cd_syntax.specs.TypeTree.{Tree}
+use Rattle.cd_syntax.specs.Name.{Name}
 use Rattle.cd_model.specs.AllOf.{AllOf}
 use Rattle.cd_model.specs.Formula.{Graph, IsGraph}
 use Rattle.cd_model.specs.Scope.{Scope}
 use Rattle.cd_model.specs.Thing.{Thing}
 use Rattle.cd_program.specs.Expr.{Expr}
-use Rattle.cd_meaning.specs.Sets.{Set, ◌⊆◌, elements_of}
+use Rattle.cd_meaning.specs.Sets.{◌⊆◌, elements_of}
 use Rattle.cd_names.specs.ProgramFaults.{names_of}
 use Rattle.cd_typing.specs.Later.{IsLater}
 use Rattle.cd_typing.specs.Branches.{HoldCaptured}
 use Rattle.cd_typing.specs.Typing.{Has}
 use Rattle.cd_typing.proofs.Later.{later_in, earlier_in, below_later, later_still}
-use Rattle.cd_sites.specs.CapturedTypes.{types_of, HoldNoMore}
-use Rattle.cd_sites.specs.Sites.{IsSite}
+use Rattle.cd_coming.specs.CapturedTypes.{types_of}
+use Rattle.cd_coming.specs.Coming.{NothingComes, SomethingComes}
 use Rattle.cd_sites.specs.declared.site.Site.{Site}
 use Rattle.cd_sites.specs.TakenElements.{IsTakenFrom, TakesNone}
-use Rattle.cd_elements.specs.Table.{Names, element_at}
-use Rattle.cd_elements.specs.declared.shape.ElementId.{ElementId}
 use Rattle.cd_empty.specs.Growth.{Grows}
 use Rattle.cd_empty.specs.Seen.{Seen, graph_of}
 use Rattle.cd_check.specs.declared.base.Base.{Base}
@@ -80,33 +80,6 @@ pub none_gives : (graph : Graph) (scope : Scope) (sited : Sited) → IsSited gra
 none_gives graph scope sited sound nodes new matched body none e captures first = left_untaken graph scope (sited_pattern sited) sited.site
     sound.site e first.element (none e first.element first.in_set) captures first.takes
 
--- what is said of a site of a graph under another name
-pub said_here : (fact : Scope → Tree → Set → Type 0) (old same : Graph) → same ≡ old → (scope : Scope) (sited : Sited) → IsSited old scope sited
-    → (matched : NodeId)
-    → ((scope : Scope) (written : Tree) → IsSite same scope written sited.site → fact scope written (elements_of same matched))
-    → fact scope (sited_pattern sited) (elements_of old matched)
-said_here fact old same is scope sited sound matched said = subst
-    (λ graph. IsSite graph scope (sited_pattern sited) sited.site → fact scope (sited_pattern sited) (elements_of graph matched)) is
-    (said scope (sited_pattern sited)) sound.site
-
--- what is captured is held by types of a longer graph than that in which it is matched
-pub hold_here : (old same middle : Graph) → same ≡ old → (scope : Scope) (sited : Sited) → IsSited old scope sited → (matched : NodeId)
-    → (own : Nodes)
-    → ((scope : Scope) (written : Tree) → IsSite same scope written sited.site
-    → HoldCaptured scope (types_of middle own) [] written (elements_of same matched))
-    → HoldCaptured scope (types_of middle own) [] (sited_pattern sited) (elements_of old matched)
-hold_here old same middle is scope sited sound matched own hold = said_here
-    (λ scope written matched. HoldCaptured scope (types_of middle own) [] written matched) old same is scope sited sound matched hold
-
--- and nothing else is in them
-pub only_here : (old same middle : Graph) → same ≡ old → (scope : Scope) (sited : Sited) → IsSited old scope sited → (matched : NodeId)
-    → (own : Nodes)
-    → ((scope : Scope) (written : Tree) → IsSite same scope written sited.site
-    → HoldNoMore scope (types_of middle own) written (elements_of same matched))
-    → HoldNoMore scope (types_of middle own) (sited_pattern sited) (elements_of old matched)
-only_here old same middle is scope sited sound matched own only = said_here
-    (λ scope written matched. HoldNoMore scope (types_of middle own) written matched) old same is scope sited sound matched only
-
 module _ (base : Base) (locals own all : Nodes) (same : all ≡ own ++ locals) (old : Graph) (sited : Sited)
     (sound : IsSited old (scope_of base) sited) (matched : NodeId) (middle : Graph)
     (hold : HoldCaptured (scope_of base) (types_of middle own) [] (sited_pattern sited) (elements_of old matched)) (body : Expr) where
@@ -163,23 +136,21 @@ pub none_within : (graph : Graph) (limit : Option Limit) → AreWithin graph lim
 none_within graph None = tt
 none_within graph (Some limit) = tt
 
--- what is said where it was asked whether something is taken
-abbrev pub Taken : Graph → NodeId → Site → List Thing → Option ElementId → Type 0
-Taken graph matched site table found = MatchOption found
-    ((scope : Scope) (written : Tree) → IsSite graph scope written site → TakesNone scope written (elements_of graph matched))
-    (λ id. Names table id × ((scope : Scope) (written : Tree) → IsSite graph scope written site
-    → IsTakenFrom scope written (elements_of graph matched) (element_at table id)))
+-- what is said of what comes to a body, by whether anything does
+abbrev pub Coming : Graph → NodeId → Site → Graph → Option (Vec (Name × NodeId) Global) → Type 0
+Coming graph matched site new found = MatchOption found (NothingComes graph matched site)
+    (λ own. SomethingComes graph matched site new own.items)
 
-pub none_taken : (graph : Graph) (matched : NodeId) (site : Site) (table : List Thing) (found : Option ElementId)
-    → Taken graph matched site table found → found ≡ None
-    → (scope : Scope) (written : Tree) → IsSite graph scope written site → TakesNone scope written (elements_of graph matched)
-none_taken graph matched site table found taken is = subst (λ (one : Option ElementId). Taken graph matched site table one) is taken
+pub nothing_comes : (graph : Graph) (matched : NodeId) (site : Site) (new : Graph) (found : Option (Vec (Name × NodeId) Global))
+    → Coming graph matched site new found → found ≡ None → NothingComes graph matched site
+nothing_comes graph matched site new found comes is =
+    subst (λ (one : Option (Vec (Name × NodeId) Global)). Coming graph matched site new one) is comes
 
-pub one_taken : (graph : Graph) (matched : NodeId) (site : Site) (table : List Thing) (found : Option ElementId) (id : ElementId)
-    → Taken graph matched site table found → found ≡ Some id
-    → (scope : Scope) (written : Tree) → IsSite graph scope written site
-    → IsTakenFrom scope written (elements_of graph matched) (element_at table id)
-one_taken graph matched site table found id taken is = (subst (λ (one : Option ElementId). Taken graph matched site table one) is taken).1
+pub something_comes : (graph : Graph) (matched : NodeId) (site : Site) (new : Graph) (found : Option (Vec (Name × NodeId) Global))
+    (own : Vec (Name × NodeId) Global) → Coming graph matched site new found → found ≡ Some own
+    → SomethingComes graph matched site new own.items
+something_comes graph matched site new found own comes is =
+    subst (λ (one : Option (Vec (Name × NodeId) Global)). Coming graph matched site new one) is comes
 
 -- two steps of a world that grows
 pub later_two : (one two three : Seen) → Grows one two → IsGraph (graph_of two) → Grows two three → IsGraph (graph_of three)

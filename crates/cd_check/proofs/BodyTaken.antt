@@ -10,7 +10,7 @@ use Rattle.cd_typing.specs.Later.{IsLater}
 use Rattle.cd_typing.specs.Typ.{Types}
 use Rattle.cd_typing.proofs.Later.{later_in, later_still}
 use Rattle.cd_least.specs.Misses.{AreCaptured, place_of}
-use Rattle.cd_sites.specs.CapturedTypes.{types_of, HoldNoMore}
+use Rattle.cd_coming.specs.CapturedTypes.{types_of, HoldNoMore}
 use Rattle.cd_sites.specs.TakenElements.{IsTakenFrom}
 use Rattle.cd_check.specs.declared.base.Base.{Base}
 use Rattle.cd_check.specs.declared.bodies.Limit.{Limit}

@@ -14,7 +14,7 @@ use Rattle.cd_meaning.specs.Sets.{Set}
 use Rattle.cd_names.specs.ProgramFaults.{Seen, is_seen, names_of, with_name}
 use Rattle.cd_typing.specs.Typ.{Typ, typ, type_at}
 use Rattle.cd_typing.specs.Branches.{IsFirst, HoldCaptured, FitsOne}
-use Rattle.cd_sites.specs.CapturedTypes.{types_of}
+use Rattle.cd_coming.specs.CapturedTypes.{types_of}
 use Rattle.cd_check.specs.Inner.Divided.{CaptureAll}
 use Rattle.cd_check.specs.Inner.Environment.{Nodes, with_node}
 use Rattle.cd_check.specs.Inner.SoundNames.{IsSound}

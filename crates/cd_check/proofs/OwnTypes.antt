@@ -11,7 +11,7 @@ use Rattle.cd_typing.specs.Typ.{Types, AreTypes}
 use Rattle.cd_typing.specs.Branches.{HoldCaptured}
 use Rattle.cd_typing.specs.Typing.{Has}
 use Rattle.cd_typing.proofs.Subsets.{itself}
-use Rattle.cd_sites.specs.CapturedTypes.{types_of}
+use Rattle.cd_coming.specs.CapturedTypes.{types_of}
 use Rattle.cd_check.specs.Inner.Environment.{Nodes, AreOfTypes, AreNodesOf, Gives}
 use Rattle.cd_typing.specs.Later.{IsLater}
 use Rattle.cd_check.specs.Inner.Bodies.{BodyGives}

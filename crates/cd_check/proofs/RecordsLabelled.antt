@@ -17,7 +17,7 @@ use Rattle.cd_typing.specs.Typ.{Typ, typ, Types}
 use Rattle.cd_typing.specs.Typing.{FieldsHave}
 use Rattle.cd_typing.proofs.Subsets.{itself}
 use Rattle.cd_meaning.specs.Sets.{elements_of}
-use Rattle.cd_sites.specs.CapturedTypes.{types_of}
+use Rattle.cd_coming.specs.CapturedTypes.{types_of}
 use Rattle.cd_check.specs.Inner.Environment.{Nodes, AreOfTypes}
 use Rattle.cd_check.specs.Inner.SoundNames.{FieldsAreSound}
 

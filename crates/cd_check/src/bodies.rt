@@ -19,10 +19,10 @@ use crate::fault::CheckError;
 use crate::locals::with_outer;
 use crate::needing::{add, need_at};
 use crate::sites::{Coming, Division};
+use cd_coming::captures;
 use cd_empty::World;
 use cd_program::expr::{Branches, Expr};
 use cd_sets::node_id::NodeId;
-use cd_sites::{captures, taken};
 use cd_syntax::name::Name;
 use cd_typing::rule::Rule;
 
@@ -108,11 +108,9 @@ pub(crate) fn check_body(
         (table_of world.new) coming.entry.matched limit (coming_pattern coming.entry)
         (plain body.now)) }
 {
-    let site = &coming.sited.site;
-    match taken(world, coming.matched, site)? {
+    match captures(base.alloc, world, coming.matched, &coming.sited.site)? {
         None => Ok(None),
-        Some(_) => {
-            let own = captures(base.alloc, world, coming.matched, site)?;
+        Some(own) => {
             let all = with_outer(own, locals)?;
             let id = check(base, world, all.as_slice(), body)?;
             keep_limit(world, id, limit, body.span.from)?;

@@ -1,11 +1,8 @@
-pub mod KernelsCapture
 pub mod RightTests
 pub mod WrittenTaken
-pub mod HeldCaptures
 pub mod AcceptedStays
 pub mod SitesStay
 pub mod SitesMade
-pub mod HeldLater
 pub mod MembersOfUnions
 pub mod DifferencesMade
 pub mod MembersLeft

@@ -1,4 +1,3 @@
 pub mod Sites
 pub mod TakenElements
-pub mod CapturedTypes
 pub mod Inner

@@ -2,7 +2,6 @@
 //! what its variables capture, and what it leaves.
 #![tactic(auto)]
 
-mod capture;
 mod difference;
 pub mod laws;
 mod make;
@@ -10,11 +9,8 @@ mod members;
 mod remain;
 mod rest;
 mod site;
-mod take;
 mod tests;
 
-pub use capture::captures;
 pub use make::site_of;
 pub use remain::remaining;
 pub use site::Site;
-pub use take::taken;

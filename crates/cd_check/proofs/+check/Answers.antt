@@ -7,8 +7,8 @@ use Rattle.cd_check.proofs.ArgumentsLeast.{apply_least, narrows_first, one_argum
 use Rattle.cd_check.proofs.ArgumentsLeast.{chain_least, one_tail_narrows, all_tails_narrow}
 use Rattle.cd_check.proofs.ArrowFaults.{arrow_uncovered, arrow_body_fault, within_result}
 use Rattle.cd_check.proofs.ArrowsKept.{KeptAt}
-use Rattle.cd_check.proofs.BodiesChecked.{hold_here, body_is_sound, one_gives, limit_later, none_taken, one_taken}
-use Rattle.cd_check.proofs.BodiesChecked.{later_two, ready_all, after_all, none_gives, only_here}
+use Rattle.cd_check.proofs.BodiesChecked.{body_is_sound, one_gives, limit_later, nothing_comes, something_comes}
+use Rattle.cd_check.proofs.BodiesChecked.{later_two, ready_all, after_all, none_gives}
 use Rattle.cd_check.proofs.BodiesDone.{Done, there, is_sound, one_done, all_done, is_sited, matched_below, none_done}
 use Rattle.cd_check.proofs.BodiesDone.{all_done_least, one_failed}
 use Rattle.cd_check.proofs.BodyTaken.{taken_known, taken_fails, beyond_fails}
@@ -1388,35 +1388,46 @@ bodies::check_bodies-returns-clause-gives t c = all_done c.args.base.now c.args.
     c.loop-number.results.items c.loop-number.invariant c.loop-number-test.false
 
 pub bodies::check_body-returns-in-None-clause-gives : goal.bodies::check_body-returns-in-None-clause-gives
-bodies::check_body-returns-in-None-clause-gives t c = none_gives (graph_of c.args.world.now) (scope_of c.args.base.now) c.args.coming.sited.now
-    c.requires.sited (seen_by c.args.base.now c.args.locals.now) (graph_of c.taken.new.world) c.args.coming.matched
-    (plain c.args.body.now)
-    (none_taken (graph_of c.args.world.now) c.args.coming.matched c.args.coming.sited.now.site (table_of c.taken.new.world)
-    c.in_ok-taken.field-0 c.in_ok-taken.ensures.taken c.in-None.is (scope_of c.args.base.now)
-    (coming_pattern c.args.coming) c.requires.sited.site)
+bodies::check_body-returns-in-None-clause-gives t c =
+    let scope = scope_of c.args.base.now in
+    let old = graph_of c.args.world.now in
+    let coming = c.args.coming in
+    none_gives old scope coming.sited.now c.requires.sited (seen_by c.args.base.now c.args.locals.now) (graph_of c.captures-2.new.world)
+    coming.matched (plain c.args.body.now)
+    (nothing_comes old coming.matched coming.sited.now.site (graph_of c.captures-2.new.world) c.in_ok-captures.field-0
+    c.in_ok-captures.ensures.comes c.in-None.is scope (coming_pattern coming) c.requires.sited.site)
 
 pub bodies::check_body-returns-in_ok-keep_limit-in-Some-clause-gives : goal.bodies::check_body-returns-in_ok-keep_limit-in-Some-clause-gives
-bodies::check_body-returns-in_ok-keep_limit-in-Some-clause-gives t c = subst (λ (graph : Graph). BodyGives (scope_of c.args.base.now)
-    (graph_of c.args.world.now)
-    (seen_by c.args.base.now c.args.locals.now) graph (elements_of (graph_of c.args.world.now) c.args.coming.matched)
-    (coming_pattern c.args.coming) (plain c.args.body.now) (Some c.in_ok-id-in-Some.id)) (sym c.keep_limit.ensures.graph)
-    (one_gives c.args.base.now c.args.locals.now
-    c.in_ok-own-in-Some.own.items c.as_slice.result.now (c.as_slice.ensures.value ∙ c.in_ok-all-in-Some.ensures)
-    (graph_of c.args.world.now) c.args.coming.sited.now c.requires.sited c.args.coming.matched (graph_of c.captures-2.new.world)
-    (hold_here (graph_of c.args.world.now) (graph_of c.taken.new.world) (graph_of c.captures-2.new.world) c.taken.ensures.graph
-    (scope_of c.args.base.now) c.args.coming.sited.now c.requires.sited c.args.coming.matched c.in_ok-own-in-Some.own.items
-    c.in_ok-own-in-Some.ensures.hold) (plain c.args.body.now) c.requires.ready
-    (later_two c.args.world.now c.taken.new.world c.captures-2.new.world c.taken.ensures.grows c.taken.ensures.sound
-    c.captures-2.ensures.grows c.captures-2.ensures.sound) c.in_ok-own-in-Some.ensures.nodes (graph_of c.check.new.world)
-    c.in_ok-id-in-Some.id c.in_ok-id-in-Some.ensures.gives)
+bodies::check_body-returns-in_ok-keep_limit-in-Some-clause-gives t c =
+    let base = c.args.base.now in
+    let scope = scope_of base in
+    let old = graph_of c.args.world.now in
+    let middle = graph_of c.captures-2.new.world in
+    let coming = c.args.coming in
+    let sited = coming.sited.now in
+    let comes = something_comes old coming.matched sited.site middle c.in_ok-captures.field-0 c.in-Some.own c.in_ok-captures.ensures.comes
+    c.in-Some.is in
+    let taken = comes.taken scope (coming_pattern coming) c.requires.sited.site in
+    subst (λ (graph : Graph). BodyGives scope old (seen_by base c.args.locals.now) graph (elements_of old coming.matched) (coming_pattern coming)
+    (plain c.args.body.now) (Some c.in_ok-id-in-Some.id)) (sym c.keep_limit.ensures.graph)
+    (one_gives base c.args.locals.now c.in-Some.own.items c.as_slice.result.now (c.as_slice.ensures.value ∙ c.in_ok-all-in-Some.ensures)
+    old sited c.requires.sited coming.matched middle (comes.hold scope (coming_pattern coming) c.requires.sited.site)
+    (plain c.args.body.now) c.requires.ready
+    (later_of c.args.world.now c.captures-2.new.world c.captures-2.ensures.grows c.captures-2.ensures.sound) comes.nodes
+    (graph_of c.check.new.world) c.in_ok-id-in-Some.id c.in_ok-id-in-Some.ensures.gives)
+
+pub bodies::check_body-returns-in-None-clause-after : goal.bodies::check_body-returns-in-None-clause-after
+bodies::check_body-returns-in-None-clause-after t c = after_grown c.args.base.now c.args.locals.now (graph_of c.args.world.now) c.args.world.now
+    c.captures-2.new.world (after_none c.args.base.now c.args.locals.now (graph_of c.args.world.now) c.requires.ready)
+    c.captures-2.ensures.grows c.captures-2.ensures.sound
 
 pub bodies::check_body-returns-in_ok-keep_limit-in-Some-clause-after : goal.bodies::check_body-returns-in_ok-keep_limit-in-Some-clause-after
 bodies::check_body-returns-in_ok-keep_limit-in-Some-clause-after t c = after_same c.args.base.now c.args.locals.now (graph_of c.args.world.now)
     (graph_of c.check.new.world) (graph_of c.keep_limit.new.world)
     (after_all c.args.base.now (graph_of c.args.world.now) (graph_of c.captures-2.new.world) (graph_of c.check.new.world)
     c.args.locals.now c.as_slice.result.now c.requires.ready
-    (later_two c.args.world.now c.taken.new.world c.captures-2.new.world c.taken.ensures.grows c.taken.ensures.sound
-    c.captures-2.ensures.grows c.captures-2.ensures.sound) c.in_ok-id-in-Some.ensures.after) c.keep_limit.ensures.graph
+    (later_of c.args.world.now c.captures-2.new.world c.captures-2.ensures.grows c.captures-2.ensures.sound)
+    c.in_ok-id-in-Some.ensures.after) c.keep_limit.ensures.graph
 
 pub function::check_function-promise_of-requires-clause-sound : goal.function::check_function-promise_of-requires-clause-sound
 function::check_function-promise_of-requires-clause-sound t c = (function_sound (declarations_of c.args.base.now)
@@ -1790,27 +1801,27 @@ bodies::check_bodies-check_body-requires t c =
     )
 
 pub bodies::check_body-check-requires : goal.bodies::check_body-check-requires
-bodies::check_body-check-requires t c = (
-  search (rules, c.decreases),
-  (
-    (ready_all c.args.base.now (graph_of c.captures-2.new.world) c.args.locals.now
-        c.in_ok-own-in-Some.own.items c.as_slice.result.now (c.as_slice.ensures.value ∙ c.in_ok-all-in-Some.ensures)
-        c.in_ok-own-in-Some.ensures.nodes
-        (ready_later c.args.base.now (graph_of c.args.world.now) (graph_of c.captures-2.new.world)
-        (later_two c.args.world.now c.taken.new.world c.captures-2.new.world c.taken.ensures.grows c.taken.ensures.sound
-        c.captures-2.ensures.grows c.captures-2.ensures.sound) c.args.locals.now c.requires.ready)),
-    (body_is_sound c.args.base.now c.args.locals.now
-        c.in_ok-own-in-Some.own.items c.as_slice.result.now (c.as_slice.ensures.value ∙ c.in_ok-all-in-Some.ensures)
-        (graph_of c.args.world.now) c.args.coming.sited.now c.requires.sited c.args.coming.matched (graph_of c.captures-2.new.world)
-        (hold_here (graph_of c.args.world.now) (graph_of c.taken.new.world) (graph_of c.captures-2.new.world) c.taken.ensures.graph
-        (scope_of c.args.base.now) c.args.coming.sited.now c.requires.sited c.args.coming.matched c.in_ok-own-in-Some.own.items
-        c.in_ok-own-in-Some.ensures.hold) (plain c.args.body.now)
-        (element_at (table_of c.taken.new.world) c.in-Some.field-0)
-        (one_taken (graph_of c.args.world.now) c.args.coming.matched c.args.coming.sited.now.site (table_of c.taken.new.world)
-        c.in_ok-taken.field-0 c.in-Some.field-0 c.in_ok-taken.ensures.taken c.in-Some.is (scope_of c.args.base.now)
-        (coming_pattern c.args.coming) c.requires.sited.site) c.requires.sound),
-  ),
-)
+bodies::check_body-check-requires t c =
+    let base = c.args.base.now in
+    let scope = scope_of base in
+    let old = graph_of c.args.world.now in
+    let middle = graph_of c.captures-2.new.world in
+    let coming = c.args.coming in
+    let sited = coming.sited.now in
+    let comes = something_comes old coming.matched sited.site middle c.in_ok-captures.field-0 c.in-Some.own c.in_ok-captures.ensures.comes
+    c.in-Some.is in
+    let taken = comes.taken scope (coming_pattern coming) c.requires.sited.site in
+    let same = c.as_slice.ensures.value ∙ c.in_ok-all-in-Some.ensures in (
+      search (rules, c.decreases),
+      (
+        (ready_all base middle c.args.locals.now c.in-Some.own.items c.as_slice.result.now same comes.nodes
+            (ready_later base old middle
+            (later_of c.args.world.now c.captures-2.new.world c.captures-2.ensures.grows c.captures-2.ensures.sound)
+            c.args.locals.now c.requires.ready)),
+        (body_is_sound base c.args.locals.now c.in-Some.own.items c.as_slice.result.now same old sited c.requires.sited coming.matched middle
+            (comes.hold scope (coming_pattern coming) c.requires.sited.site) (plain c.args.body.now) taken.0 taken.1 c.requires.sound),
+      ),
+    )
 
 pub function::check_function-check_promise-requires : goal.function::check_function-check_promise-requires
 function::check_function-check_promise-requires t c = (
@@ -2375,12 +2386,14 @@ bodies::check_bodies-returns-in_err-id-clause-fault t c =
     (sym (branch_body c.branch-item.result)) c.in_err-id.ensures.fault))
 
 pub bodies::check_body-returns-in-None-clause-least : goal.bodies::check_body-returns-in-None-clause-least
-bodies::check_body-returns-in-None-clause-least t c types of = none_gives (graph_of c.args.world.now) (scope_of c.args.base.now) c.args.coming.sited.now
-    c.requires.sited (seen_by c.args.base.now c.args.locals.now) (graph_of c.taken.new.world) c.args.coming.matched
-    (plain c.args.body.now)
-    (none_taken (graph_of c.args.world.now) c.args.coming.matched c.args.coming.sited.now.site (table_of c.taken.new.world)
-    c.in_ok-taken.field-0 c.in_ok-taken.ensures.taken c.in-None.is (scope_of c.args.base.now)
-    (coming_pattern c.args.coming) c.requires.sited.site)
+bodies::check_body-returns-in-None-clause-least t c types of =
+    let scope = scope_of c.args.base.now in
+    let old = graph_of c.args.world.now in
+    let coming = c.args.coming in
+    none_gives old scope coming.sited.now c.requires.sited (seen_by c.args.base.now c.args.locals.now) (graph_of c.captures-2.new.world)
+    coming.matched (plain c.args.body.now)
+    (nothing_comes old coming.matched coming.sited.now.site (graph_of c.captures-2.new.world) c.in_ok-captures.field-0
+    c.in_ok-captures.ensures.comes c.in-None.is scope (coming_pattern coming) c.requires.sited.site)
 
 pub bodies::check_body-returns-in_ok-keep_limit-in-Some-clause-least : goal.bodies::check_body-returns-in_ok-keep_limit-in-Some-clause-least
 bodies::check_body-returns-in_ok-keep_limit-in-Some-clause-least t c =
@@ -2390,20 +2403,17 @@ bodies::check_body-returns-in_ok-keep_limit-in-Some-clause-least t c =
     let middle = graph_of c.captures-2.new.world in
     let coming = c.args.coming in
     let sited = coming.sited.now in
-    let own = c.in_ok-own-in-Some in
+    let comes = something_comes old coming.matched sited.site middle c.in_ok-captures.field-0 c.in-Some.own c.in_ok-captures.ensures.comes
+    c.in-Some.is in
+    let taken = comes.taken scope (coming_pattern coming) c.requires.sited.site in
     let id = c.in_ok-id-in-Some in
     subst (λ (graph : Graph). BodyLeast scope old (seen_by base c.args.locals.now) graph (elements_of old coming.matched) (coming_pattern coming)
     (plain c.args.body.now) (Some id.id)) (sym c.keep_limit.ensures.graph)
-    (taken_known base c.args.locals.now own.own.items c.as_slice.result.now (c.as_slice.ensures.value ∙ c.in_ok-all-in-Some.ensures) old
+    (taken_known base c.args.locals.now c.in-Some.own.items c.as_slice.result.now (c.as_slice.ensures.value ∙ c.in_ok-all-in-Some.ensures) old
     c.requires.ready sited coming.matched middle
-    (later_two c.args.world.now c.taken.new.world c.captures-2.new.world c.taken.ensures.grows c.taken.ensures.sound
-    c.captures-2.ensures.grows c.captures-2.ensures.sound) own.ensures.nodes
-    (hold_here old (graph_of c.taken.new.world) middle c.taken.ensures.graph scope sited c.requires.sited coming.matched own.own.items own.ensures.hold)
-    (only_here old (graph_of c.taken.new.world) middle c.taken.ensures.graph scope sited c.requires.sited coming.matched own.own.items own.ensures.only)
-    (element_at (table_of c.taken.new.world) c.in-Some.field-0)
-    (one_taken old coming.matched sited.site (table_of c.taken.new.world) c.in_ok-taken.field-0 c.in-Some.field-0 c.in_ok-taken.ensures.taken
-    c.in-Some.is scope (coming_pattern coming) c.requires.sited.site) (plain c.args.body.now) (graph_of c.check.new.world) id.id id.ensures.gives
-    id.ensures.least)
+    (later_of c.args.world.now c.captures-2.new.world c.captures-2.ensures.grows c.captures-2.ensures.sound) comes.nodes
+    (comes.hold scope (coming_pattern coming) c.requires.sited.site) (comes.only scope (coming_pattern coming) c.requires.sited.site)
+    taken.0 taken.1 (plain c.args.body.now) (graph_of c.check.new.world) id.id id.ensures.gives id.ensures.least)
 
 pub bodies::check_body-returns-in_err-id-in-Some-clause-fault : goal.bodies::check_body-returns-in_err-id-in-Some-clause-fault
 bodies::check_body-returns-in_err-id-in-Some-clause-fault t c =
@@ -2413,18 +2423,16 @@ bodies::check_body-returns-in_err-id-in-Some-clause-fault t c =
     let middle = graph_of c.captures-2.new.world in
     let coming = c.args.coming in
     let sited = coming.sited.now in
-    let own = c.in_ok-own-in-Some in
+    let comes = something_comes old coming.matched sited.site middle c.in_ok-captures.field-0 c.in-Some.own c.in_ok-captures.ensures.comes
+    c.in-Some.is in
+    let taken = comes.taken scope (coming_pattern coming) c.requires.sited.site in
     let is = err_from_is_err_and c.from_residual-in_err-id-in-Some.result c.from_residual-in_err-id-in-Some.ensures.1 in
     rw (is.1, is.2)
-    (taken_fails base c.args.locals.now own.own.items c.as_slice.result.now (c.as_slice.ensures.value ∙ c.in_ok-all-in-Some.ensures) old
+    (taken_fails base c.args.locals.now c.in-Some.own.items c.as_slice.result.now (c.as_slice.ensures.value ∙ c.in_ok-all-in-Some.ensures) old
     c.requires.ready sited coming.matched middle
-    (later_two c.args.world.now c.taken.new.world c.captures-2.new.world c.taken.ensures.grows c.taken.ensures.sound
-    c.captures-2.ensures.grows c.captures-2.ensures.sound) own.ensures.nodes
-    (hold_here old (graph_of c.taken.new.world) middle c.taken.ensures.graph scope sited c.requires.sited coming.matched own.own.items own.ensures.hold)
-    (only_here old (graph_of c.taken.new.world) middle c.taken.ensures.graph scope sited c.requires.sited coming.matched own.own.items own.ensures.only)
-    (element_at (table_of c.taken.new.world) c.in-Some.field-0)
-    (one_taken old coming.matched sited.site (table_of c.taken.new.world) c.in_ok-taken.field-0 c.in-Some.field-0 c.in_ok-taken.ensures.taken
-    c.in-Some.is scope (coming_pattern coming) c.requires.sited.site) (plain c.args.body.now) (table_of c.check.new.world) c.args.limit
+    (later_of c.args.world.now c.captures-2.new.world c.captures-2.ensures.grows c.captures-2.ensures.sound) comes.nodes
+    (comes.hold scope (coming_pattern coming) c.requires.sited.site) (comes.only scope (coming_pattern coming) c.requires.sited.site)
+    taken.0 taken.1 (plain c.args.body.now) (table_of c.check.new.world) c.args.limit
     c.in_err-id-in-Some.field-0.0 c.in_err-id-in-Some.ensures.fault)
 
 pub bodies::check_body-returns-in_err-keep_limit-in-Some-clause-fault : goal.bodies::check_body-returns-in_err-keep_limit-in-Some-clause-fault
@@ -2435,19 +2443,17 @@ bodies::check_body-returns-in_err-keep_limit-in-Some-clause-fault t c =
     let middle = graph_of c.captures-2.new.world in
     let coming = c.args.coming in
     let sited = coming.sited.now in
-    let own = c.in_ok-own-in-Some in
+    let comes = something_comes old coming.matched sited.site middle c.in_ok-captures.field-0 c.in-Some.own c.in_ok-captures.ensures.comes
+    c.in-Some.is in
+    let taken = comes.taken scope (coming_pattern coming) c.requires.sited.site in
     let id = c.in_ok-id-in-Some in
     let is = err_from_is_err_and c.from_residual-in_err-keep_limit-in-Some.result c.from_residual-in_err-keep_limit-in-Some.ensures.1 in
     rw (is.1, is.2)
-    (beyond_fails base c.args.locals.now own.own.items c.as_slice.result.now (c.as_slice.ensures.value ∙ c.in_ok-all-in-Some.ensures) old
+    (beyond_fails base c.args.locals.now c.in-Some.own.items c.as_slice.result.now (c.as_slice.ensures.value ∙ c.in_ok-all-in-Some.ensures) old
     c.requires.ready sited coming.matched middle
-    (later_two c.args.world.now c.taken.new.world c.captures-2.new.world c.taken.ensures.grows c.taken.ensures.sound
-    c.captures-2.ensures.grows c.captures-2.ensures.sound) own.ensures.nodes
-    (hold_here old (graph_of c.taken.new.world) middle c.taken.ensures.graph scope sited c.requires.sited coming.matched own.own.items own.ensures.hold)
-    (only_here old (graph_of c.taken.new.world) middle c.taken.ensures.graph scope sited c.requires.sited coming.matched own.own.items own.ensures.only)
-    (element_at (table_of c.taken.new.world) c.in-Some.field-0)
-    (one_taken old coming.matched sited.site (table_of c.taken.new.world) c.in_ok-taken.field-0 c.in-Some.field-0 c.in_ok-taken.ensures.taken
-    c.in-Some.is scope (coming_pattern coming) c.requires.sited.site) (plain c.args.body.now) (graph_of c.check.new.world) id.id id.ensures.gives
+    (later_of c.args.world.now c.captures-2.new.world c.captures-2.ensures.grows c.captures-2.ensures.sound) comes.nodes
+    (comes.hold scope (coming_pattern coming) c.requires.sited.site) (comes.only scope (coming_pattern coming) c.requires.sited.site)
+    taken.0 taken.1 (plain c.args.body.now) (graph_of c.check.new.world) id.id id.ensures.gives
     id.ensures.least id.ensures.after.later (table_of c.keep_limit.new.world) c.args.limit c.requires.limit (out-Expr c.args.body.now).span.from
     (sym (place_is c.args.body.now)) c.in_err-keep_limit-in-Some.field-0.0 c.in_err-keep_limit-in-Some.ensures.fault)
 

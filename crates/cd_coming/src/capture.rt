@@ -8,13 +8,13 @@ ghost use Rattle.cd_empty.specs.Growth.{Grows};
 ghost use Rattle.cd_empty.specs.Seen.{graph_of};
 ghost use Rattle.cd_meaning.specs.Sets.{elements_of};
 ghost use Rattle.cd_typing.specs.Branches.{HoldCaptured};
-ghost use Rattle.cd_sites.specs.CapturedTypes.{types_of, HoldNoMore};
+ghost use Rattle.cd_coming.specs.CapturedTypes.{types_of, HoldNoMore};
 ghost use Rattle.cd_sites.specs.Sites.{IsAccepted, IsSite};
 
-use crate::site::Site;
 use cd_captured::captured;
 use cd_empty::World;
 use cd_sets::node_id::NodeId;
+use cd_sites::Site;
 use cd_syntax::name::Name;
 use std::alloc::{AllocError, Global};
 
@@ -24,7 +24,7 @@ use std::alloc::{AllocError, Global};
 /// # Errors
 ///
 /// Want of memory. The graph stays as it was.
-pub fn captures(
+pub(crate) fn types_captured(
     alloc: Global,
     world: &mut World,
     matched: NodeId,

@@ -20,12 +20,12 @@ use Rattle.cd_kernel.proofs.VariableNumbers.{number_within}
 use Rattle.cd_meaning.specs.Sets.{Set, elements_of}
 use Rattle.cd_typing.specs.Branches.{FitsOne, IsFirst, HoldCaptured}
 use Rattle.cd_typing.specs.Typ.{Typ, typ, In, type_at}
-use Rattle.cd_sites.specs.CapturedTypes.{types_of, HoldNoMore}
+use Rattle.cd_coming.specs.CapturedTypes.{types_of, HoldNoMore}
 use Rattle.cd_explored.specs.Captures.{AreExactCaptures}
 use Rattle.cd_sites.specs.Sites.{IsSite}
 use Rattle.cd_sites.specs.declared.site.Site.{Site}
 use Rattle.cd_filter.proofs.CapturedSound.{elements_captured}
-use Rattle.cd_sites.proofs.KernelsCapture.{captured}
+use Rattle.cd_coming.proofs.KernelsCapture.{captured}
 use Rattle.cd_sites.proofs.RightTests.{test, right}
 use Rattle.cd_sites.proofs.WrittenTaken.{answered, takes_answered, takes_once}
 

@@ -1,6 +1,6 @@
 use Rattle.cd_empty.specs.Seen.{graph_of}
-use Rattle.cd_sites.proofs.HeldLater.{held, held_alone}
-use Rattle.cd_sites.proofs.capture.captures.Goals as goal
+use Rattle.cd_coming.proofs.HeldLater.{held, held_alone}
+use Rattle.cd_coming.proofs.capture.types_captured.Goals as goal
 
 pub returns-clause-hold : goal.returns-clause-hold
 returns-clause-hold c =

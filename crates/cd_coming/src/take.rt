@@ -1,5 +1,5 @@
 //! Whether a pattern takes something of a type.
-ghost use Rattle.std.specs.Prelude.{◌≡◌, ◌<◌, ◌∷◌, [], length, IfOk, MatchOption};
+ghost use Rattle.std.specs.Prelude.{◌≡◌, ◌<◌, [], length, IfOk, MatchOption};
 ghost use Rattle.cd_syntax.specs.TypeTree.{Tree};
 ghost use Rattle.cd_model.specs.Formula.{IsGraph};
 ghost use Rattle.cd_model.specs.Scope.{Scope};
@@ -10,11 +10,11 @@ ghost use Rattle.cd_meaning.specs.Sets.{elements_of};
 ghost use Rattle.cd_sites.specs.Sites.{IsAccepted, IsSite};
 ghost use Rattle.cd_sites.specs.TakenElements.{IsTakenFrom, TakesNone};
 
-use crate::site::Site;
 use cd_elements::ElementId;
 use cd_empty::World;
 use cd_needs::asking::question;
 use cd_sets::node_id::NodeId;
+use cd_sites::Site;
 use cd_verdicts::Verdict;
 use std::alloc::AllocError;
 
@@ -24,7 +24,7 @@ use std::alloc::AllocError;
 /// # Errors
 ///
 /// Want of memory.
-pub fn taken(
+pub(crate) fn taken(
     world: &mut World,
     matched: NodeId,
     site: &Site,

@@ -11,10 +11,10 @@ use Rattle.cd_matching.specs.PlainKernel.{plain_kernel}
 use Rattle.cd_meaning.specs.Sets.{elements_of}
 use Rattle.cd_typing.specs.Branches.{HoldCaptured}
 use Rattle.cd_explored.specs.Captures.{AreExactCaptures}
-use Rattle.cd_sites.specs.CapturedTypes.{types_of, HoldNoMore}
+use Rattle.cd_coming.specs.CapturedTypes.{types_of, HoldNoMore}
 use Rattle.cd_sites.specs.Sites.{IsSite}
 use Rattle.cd_sites.specs.declared.site.Site.{Site}
-use Rattle.cd_sites.proofs.HeldCaptures.{names_in, ids_in, hold, hold_no_more, first_in}
+use Rattle.cd_coming.proofs.HeldCaptures.{names_in, ids_in, hold, hold_no_more, first_in}
 use Rattle.cd_sites.proofs.SitesStay.{site_stays}
 
 module _ (old new : Graph) (grows : (more : Graph) × (new ≡ old ++ more)) (sound : IsGraph new)

@@ -2,7 +2,7 @@ use Rattle.std.proofs.Common.{subst}
 use Rattle.cd_empty.specs.Seen.{graph_of, table_of}
 use Rattle.cd_verdicts.specs.Verdicts.{IsExact}
 use Rattle.cd_sites.proofs.WrittenTaken.{none_by_verdict, one_by_verdict}
-use Rattle.cd_sites.proofs.take.taken.Goals as goal
+use Rattle.cd_coming.proofs.take.taken.Goals as goal
 
 pub returns-in-Empty-clause-taken : goal.returns-in-Empty-clause-taken
 returns-in-Empty-clause-taken c = λ scope written is.

@@ -1,0 +1,4 @@
+pub mod KernelsCapture
+pub mod HeldCaptures
+pub mod HeldLater
+pub mod Comes

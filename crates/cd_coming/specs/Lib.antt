@@ -1,0 +1,2 @@
+pub mod CapturedTypes
+pub mod Coming
