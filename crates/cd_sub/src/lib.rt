@@ -92,8 +92,8 @@ fn with_file(
     }
 }
 
-// Whether the first type text is within the second, where they see these declarations, or the
-// naming fault that is reported of the declarations.
+// Whether the first type text is within the second, where they see these declarations. The error is
+// the naming fault that is reported of the declarations, or want of memory.
 fn sub_with(
     alloc: Global,
     declared: &Declarations,
@@ -108,8 +108,26 @@ fn sub_with(
         (λ error. IfRefused error (RefusesNames (plain_declarations declared.now))) }
 {
     let mut world = World::new(alloc)?;
-    let names = declare(alloc, &mut world, declared)?;
-    let message = with_names(alloc, &mut world, &names, first, second)?;
+    in_world(alloc, &mut world, declared, first, second)
+}
+
+// The same, in a world of no names.
+fn in_world(
+    alloc: Global,
+    world: &mut World,
+    declared: &Declarations,
+    first: &str,
+    second: &str,
+) -> Result<Message, RefusalError>
+    requires { AreWellMadeDeclarations (plain_declarations declared.now) }
+    ensures answer { IfOk result (λ message.
+        SubAnswer (plain_declarations declared.now) first.now second.now (reply_of message)) }
+    ensures sound { OnOk result (AreNamedWell (plain_declarations declared.now)) }
+    ensures refused { IfErr result
+        (λ error. IfRefused error (RefusesNames (plain_declarations declared.now))) }
+{
+    let names = declare(alloc, world, declared)?;
+    let message = with_names(alloc, world, &names, first, second)?;
     Ok(message)
 }
 
