@@ -13,12 +13,13 @@ use Rattle.cd_model.specs.Written.{Written}
 use Rattle.cd_documents.specs.Reading.{WritesValue}
 use Rattle.cd_replies.specs.Bytes.{Bytes}
 use Rattle.cd_replies.specs.Disk.{Disk, HasText, refused}
-use Rattle.cd_replies.specs.Message.{reply_of}
+use Rattle.cd_replies.specs.Message.{IsSaidOfText, reply_of}
 use Rattle.cd_replies.specs.Reply.{Reply, says, refusal}
 use Rattle.cd_replies.specs.declared.message.Message.{Message}
-use Rattle.cd_replies.specs.Texts.{TextFault}
-use Rattle.cd_replies.proofs.Messages.{replies}
+use Rattle.cd_replies.specs.declared.refusal.RefusalError.{RefusalError}
 use Rattle.cd_replies.specs.Documents.{RefusesDocument}
+use Rattle.cd_replies.specs.Refusals.{IfRefused}
+use Rattle.cd_replies.proofs.Messages.{replies, refusal_replies}
 use Rattle.cd_member.specs.MemberAnswer.{DocumentAnswer, document_refused, yes, no}
 
 module _ (document text : Bytes) (graph : Graph) (id : NodeId) where
@@ -28,11 +29,11 @@ module _ (document text : Bytes) (graph : Graph) (id : NodeId) where
       → DocumentAnswer disk document type reply
 
   -- so it is refused
-  pub document_is_refused : (found : TextFault) → RefusesDocument text found → (r : Result Message AllocError)
-      → IfOk r (λ message. reply_of message ≡ refusal document text found) → IfOk r (λ message. Answers (reply_of message))
-  document_is_refused found stands r said =
-      replies r (refusal document text found) Answers said
-      (λ disk has type node. document_refused (refusal document text found) (refused text has found stands))
+  pub document_is_refused : (error : RefusalError) → IfRefused error (RefusesDocument text) → (r : Result Message AllocError)
+      → IfOk r (λ message. IsSaidOfText document text error (reply_of message)) → IfOk r (λ message. Answers (reply_of message))
+  document_is_refused error is r said =
+      refusal_replies r document text error (RefusesDocument text) Answers said is
+      (λ found stands disk has type node. document_refused (refusal document text found) (refused text has found stands))
 
   -- its value is in the type or outside, as it is in the node
   answered : (v : Thing) → WritesValue (chars text) v → IsValue v → (inside : Bool) → ((interfaces : Interfaces) → value_in_node graph interfaces v id inside)

@@ -17,5 +17,5 @@ document_is_reply disk document type _ (no v writes outside) = record { text = �
 
 pub member_is_reply : (disk : Disk) (file document text : Bytes) (reply : Reply) → MemberAnswer disk file document text reply → IsReply reply
 member_is_reply disk file document text _ (file_refused reply refusal) = file_is_reply RefusesDeclarations disk file reply refusal
-member_is_reply disk file document text _ (type_refused declared declares text_fault stands) = refusal_is_reply (codes "T") text text_fault
+member_is_reply disk file document text _ (type_refused declared declares found stands) = refusal_is_reply (codes "T") text found
 member_is_reply disk file document text _ (on_document declared declares type reads reply answers) = document_is_reply disk document type reply answers

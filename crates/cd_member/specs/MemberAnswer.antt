@@ -6,9 +6,10 @@ use Rattle.cd_model.specs.Thing.{Thing}
 use Rattle.cd_model.specs.Written.{Written}
 use Rattle.cd_replies.specs.Bytes.{Bytes}
 use Rattle.cd_replies.specs.Reply.{Reply, says, refusal}
-use Rattle.cd_replies.specs.Texts.{TextFault, ReadsAs, Declares, RefusesType, RefusesDeclarations}
+use Rattle.cd_replies.specs.Texts.{ReadsAs, Declares, RefusesType, RefusesDeclarations}
 use Rattle.cd_replies.specs.Disk.{Disk, HasText, FileRefusal}
 use Rattle.cd_replies.specs.Documents.{RefusesDocument, FileWrites, IsValueIn, IsValueOutside}
+use Rattle.cd_replies.specs.declared.refusal.Refusal.{Refusal}
 
 -- the file of this name has a text, which declares these types
 pub record FileDeclares (disk : Disk) (file : Bytes) (declared : Declarations) : Type 0 where
@@ -32,10 +33,9 @@ pub data DocumentAnswer (disk : Disk) (document : Bytes) (type : Written) : Repl
 pub data MemberAnswer (disk : Disk) (file document text : Bytes) : Reply → Type 0 where
   file_refused : (reply : Reply) → FileRefusal RefusesDeclarations disk file reply
       → MemberAnswer disk file document text reply
-  type_refused : (declared : Declarations) → FileDeclares disk file declared
-      → (text_fault : TextFault)
-      → RefusesType declared text text_fault
-      → MemberAnswer disk file document text (refusal (codes "T") text text_fault)
+  type_refused : (declared : Declarations) → FileDeclares disk file declared → (found : Refusal)
+      → RefusesType declared text found
+      → MemberAnswer disk file document text (refusal (codes "T") text found)
   on_document : (declared : Declarations) → FileDeclares disk file declared → (type : Written)
       → ReadsAs declared text type
       → (reply : Reply) → DocumentAnswer disk document type reply

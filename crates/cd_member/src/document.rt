@@ -35,9 +35,9 @@ pub(crate) fn of_text(
         → DocumentAnswer disk document.now type (reply_of message)) }
 {
     let mut values = Values::new(alloc);
-    match read_document(alloc, &mut values, text)? {
+    match read_document(alloc, &mut values, text) {
         Ok(id) => yes_or_no(alloc, holds(alloc, graph, &values, id, node)?),
-        Err(refusal) => refused(alloc, document, text, refusal),
+        Err(error) => refused(alloc, document, text, error),
     }
 }
 

@@ -48,9 +48,8 @@ pub fn member<F: Files>(
         (file.now ∷ document.now ∷ []) }
 {
     match read_file(files, file) {
-        Err(error) => Err(error),
-        Ok(Err(fault)) => no_text(alloc, file, fault),
-        Ok(Ok(types)) => with_file(alloc, files, file, types.as_str(), document, text),
+        Ok(types) => with_file(alloc, files, file, types.as_str(), document, text),
+        Err(error) => no_text(alloc, file, error),
     }
 }
 
@@ -67,14 +66,14 @@ fn with_file<F: Files>(
         → MemberAnswer disk file.now document.now text.now reply)
         (F.state files.old) (F.state files.new) document.now result }
 {
-    let declared = match read_declarations(alloc, types)? {
+    let declared = match read_declarations(alloc, types) {
         Ok(declared) => declared,
-        Err(refusal) => return refused(alloc, file, types, refusal),
+        Err(error) => return refused(alloc, file, types, error),
     };
     let mut graph = Graph::new(alloc)?;
-    match declare(alloc, &mut graph, &declared)? {
+    match declare(alloc, &mut graph, &declared) {
         Ok(names) => with_names(alloc, files, &mut graph, &names, document, text),
-        Err(fault) => refused(alloc, file, types, fault),
+        Err(error) => refused(alloc, file, types, error),
     }
 }
 
@@ -94,9 +93,9 @@ fn with_names<F: Files>(
         → MemberAnswer disk file document.now text.now reply)
         (F.state files.old) (F.state files.new) document.now result }
 {
-    match node(alloc, graph, names, text)? {
+    match node(alloc, graph, names, text) {
         Ok(id) => with_type(alloc, files, graph, id, document),
-        Err(refusal) => refused(alloc, "T", text, refusal),
+        Err(error) => refused(alloc, "T", text, error),
     }
 }
 
@@ -114,8 +113,7 @@ fn with_type<F: Files>(
         (F.state files.old) (F.state files.new) document.now result }
 {
     match read_file(files, document) {
-        Err(error) => Err(error),
-        Ok(Err(fault)) => no_text(alloc, document, fault),
-        Ok(Ok(text)) => of_text(alloc, graph, id, document, text.as_str()),
+        Ok(text) => of_text(alloc, graph, id, document, text.as_str()),
+        Err(error) => no_text(alloc, document, error),
     }
 }
