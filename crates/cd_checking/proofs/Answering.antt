@@ -8,11 +8,12 @@ use Rattle.cd_replies.specs.Bytes.{Bytes}
 use Rattle.cd_replies.specs.Reply.{Reply, cannot_read}
 use Rattle.cd_replies.specs.Texts.{RefusesProgram}
 use Rattle.cd_replies.specs.Disk.{Disk, HasText, unreadable, known_disk, unreadable_disk}
-use Rattle.cd_replies.specs.File.{IsFileRead, said_of}
+use Rattle.cd_replies.specs.File.{IsFileRead, IsSaidOfFile, said_of}
 use Rattle.cd_replies.specs.Message.{IsAnswer, reply_of}
-use Rattle.cd_replies.specs.declared.file.FileFault.{FileFault}
+use Rattle.cd_replies.specs.declared.file.FileError.{FileError}
+use Rattle.cd_replies.specs.declared.file.FileError.TheVariants.{Fault, Memory}
 use Rattle.cd_replies.specs.declared.message.Message.{Message}
-use Rattle.cd_replies.proofs.Messages.{replies}
+use Rattle.cd_replies.proofs.Messages.{replies, nothing_said}
 use Rattle.cd_replies.proofs.FilesEncountered.{has_text, encountered_same, FaultMet, failed, granted, fault_encountered}
 use Rattle.cd_checking.specs.CheckAnswer.{CheckAnswer, file_refused}
 
@@ -31,14 +32,15 @@ answers_encountered old new name _ (granted same reply refusal) r said = (
   replies r reply (CheckAnswer (known_disk old) name) said (file_refused reply refusal),
 )
 
-pub answers_fault : (old new : FilesState) (name : Bytes) (fault : FileFault) → IsFileRead old new name (Ok (Err fault))
-    → (r : Result Message AllocError) → IfOk r (λ message. reply_of message ≡ said_of name fault)
+pub answers_error : (old new : FilesState) (name : Bytes) (error : FileError) → IsFileRead old new name (Err error)
+    → (r : Result Message AllocError) → IfOk r (λ message. IsSaidOfFile name error (reply_of message))
     → IsAnswer (λ disk. CheckAnswer disk name) old new r
-answers_fault old new name fault is r said =
+answers_error old new name (Fault fault) is r said =
     answers_encountered old new name (said_of name fault) (fault_encountered RefusesProgram old new name fault is) r said
+answers_error old new name Memory is r said = (known_disk old, encountered_same old new is, nothing_said r (CheckAnswer (known_disk old) name) said)
 
 -- and so is what is said where it has one
-pub answers_text : (old new : FilesState) (name : Bytes) (text : String Global) → IsFileRead old new name (Ok (Ok text))
+pub answers_text : (old new : FilesState) (name : Bytes) (text : String Global) → IsFileRead old new name (Ok text)
     → (r : Result Message AllocError)
     → IfOk r
     (λ message. (disk : Disk) → HasText disk name (string_bytes text) → CheckAnswer disk name (reply_of message))
@@ -49,7 +51,3 @@ answers_text old new name text is (Ok message) said = (
   said (known_disk old) (has_text old new name text is),
 )
 answers_text old new name text is (Err error) said = (known_disk old, encountered_same old new is.0, tt)
-
-pub answers_nothing : (old new : FilesState) (name : Bytes) (error : AllocError) → IsFileRead old new name (Err error)
-    → IsAnswer (λ disk. CheckAnswer disk name) old new (Err error)
-answers_nothing old new name error is = (known_disk old, encountered_same old new is, tt)

@@ -13,8 +13,9 @@ use Rattle.cd_replies.specs.Disk.{Disk, HasText}
 use Rattle.cd_replies.specs.Message.{reply_of}
 use Rattle.cd_replies.specs.Naming.{RefusesNames, naming}
 use Rattle.cd_replies.specs.Reply.{Reply}
-use Rattle.cd_replies.specs.Texts.{TextFault, ReadsAsProgram}
+use Rattle.cd_replies.specs.Texts.{ReadsAsProgram}
 use Rattle.cd_replies.specs.declared.message.Message.{Message}
+use Rattle.cd_replies.specs.declared.refusal.Refusal.{Refusal}
 use Rattle.cd_least.specs.ProgramFaults.{ProgramFault}
 use Rattle.cd_check.specs.Faults.{Reports}
 use Rattle.cd_check.specs.declared.fault.CheckError.{CheckError}
@@ -31,7 +32,7 @@ answers_program file text program reads (Ok message) answers =
 answers_program file text program reads (Err error) answers = tt
 
 -- no naming fault is reported of its declarations
-pub names_sound : (text : Bytes) (program : Program) → ReadsAsProgram text program → (text_fault : TextFault) → RefusesNames program.types text_fault → ⊥
+pub names_sound : (text : Bytes) (program : Program) → ReadsAsProgram text program → (found : Refusal) → RefusesNames program.types found → ⊥
 names_sound text program reads _ (naming fault reported) = reads.sound fault (in_types fault reported.is)
 
 -- what a number of the table names is an element

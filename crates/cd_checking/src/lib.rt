@@ -21,6 +21,7 @@ use cd_replies::file::read_file;
 use cd_replies::message::{Message, accepted, ill_typed, no_text, refused};
 use cd_replies::naming::declare;
 use cd_replies::reader::read_program;
+use cd_replies::refusal::RefusalError;
 use std::alloc::{AllocError, Global};
 
 /// What is said of the program of a file: that it is accepted, where the typing rules type it, or
@@ -36,9 +37,8 @@ pub fn check<F: Files>(alloc: Global, files: &mut F, file: &str) -> Result<Messa
     ensures read { ReadsThere (F.state files.old) (F.state files.new) file.now }
 {
     match read_file(files, file) {
-        Err(error) => Err(error),
-        Ok(Err(fault)) => no_text(alloc, file, fault),
-        Ok(Ok(text)) => of_text(alloc, file, text.as_str()),
+        Ok(text) => of_text(alloc, file, text.as_str()),
+        Err(error) => no_text(alloc, file, error),
     }
 }
 
@@ -47,9 +47,9 @@ fn of_text(alloc: Global, file: &str, text: &str) -> Result<Message, AllocError>
     ensures { IfOk result (λ message. (disk : Disk) → HasText disk file.now text.now
         → CheckAnswer disk file.now (reply_of message)) }
 {
-    match read_program(alloc, text)? {
+    match read_program(alloc, text) {
         Ok(program) => of_program(alloc, file, text, &program),
-        Err(refusal) => refused(alloc, file, text, refusal),
+        Err(error) => refused(alloc, file, text, error),
     }
 }
 
@@ -90,9 +90,10 @@ pub fn no_types(
         (reply_of message))) }
 {
     let mut world = World::new(alloc)?;
-    let names = match declare(alloc, &mut world, &program.types)? {
+    let names = match declare(alloc, &mut world, &program.types) {
         Ok(names) => names,
-        Err(_) => unreachable!(),
+        Err(RefusalError::Memory) => return Err(AllocError),
+        Err(RefusalError::Refused(_)) => unreachable!(),
     };
     match check_types(alloc, &mut world, &names, program) {
         Ok(()) => Ok(None),
