@@ -10,9 +10,10 @@ use Rattle.cd_model.specs.Written.{Written}
 use Rattle.cd_model.proofs.ApartAtWritten.{not_both}
 use Rattle.cd_replies.specs.Bytes.{Bytes}
 use Rattle.cd_driver.specs.Command.{Command, Sub, SubTypes, Member, Check, Run, RunSteps, Work, files_of}
-use Rattle.cd_replies.specs.Texts.{TextFault, ReadsAs, Declares, ReadsAsProgram, RefusesType, RefusesDeclarations, RefusesProgram}
+use Rattle.cd_replies.specs.Texts.{ReadsAs, Declares, ReadsAsProgram, RefusesType, RefusesDeclarations, RefusesProgram}
 use Rattle.cd_replies.specs.Within.{IsIn, IsOutside, IsWithin}
 use Rattle.cd_replies.specs.Reply.{Reply, refusal}
+use Rattle.cd_replies.specs.declared.refusal.Refusal.{Refusal}
 use Rattle.cd_replies.specs.Disk.{Disk, Has, HasText, LARGEST, FileRefusal, unread, large, encoding, refused}
 use Rattle.cd_sub.specs.SubAnswer.{SubAnswer, yes, no, first_refused, second_refused}
 use Rattle.cd_sub.specs.SubAnswer.{SubTypesAnswer, file_refused, on_texts}
@@ -61,21 +62,21 @@ module _ (declared : Declarations) (text1 text2 : Bytes) where
   sub_one _ _ (yes a b a_is b_is within) (yes c d c_is d_is within') = refl
   sub_one _ _ (yes a b a_is b_is within) (no c d c_is d_is element is inside outside) =
       apart a b c d a_is b_is c_is d_is within element is inside outside
-  sub_one _ _ (yes a b a_is b_is within) (first_refused text_fault stands) = absurd (reads_unrefused declared text1 a a_is text_fault stands)
-  sub_one _ _ (yes a b a_is b_is within) (second_refused c c_is text_fault stands) = absurd (reads_unrefused declared text2 b b_is text_fault stands)
+  sub_one _ _ (yes a b a_is b_is within) (first_refused found stands) = absurd (reads_unrefused declared text1 a a_is found stands)
+  sub_one _ _ (yes a b a_is b_is within) (second_refused c c_is found stands) = absurd (reads_unrefused declared text2 b b_is found stands)
   sub_one _ _ (no c d c_is d_is element is inside outside) (yes a b a_is b_is within) =
       apart a b c d a_is b_is c_is d_is within element is inside outside
   sub_one _ _ (no a b a_is b_is element is inside outside) (no c d c_is d_is element' is' inside' outside') = refl
-  sub_one _ _ (no a b a_is b_is element is inside outside) (first_refused text_fault stands) = absurd (reads_unrefused declared text1 a a_is text_fault stands)
-  sub_one _ _ (no a b a_is b_is element is inside outside) (second_refused c c_is text_fault stands) = absurd (reads_unrefused declared text2 b b_is text_fault stands)
-  sub_one _ _ (first_refused text_fault stands) (yes a b a_is b_is within) = absurd (reads_unrefused declared text1 a a_is text_fault stands)
-  sub_one _ _ (first_refused text_fault stands) (no a b a_is b_is element is inside outside) = absurd (reads_unrefused declared text1 a a_is text_fault stands)
-  sub_one _ _ (first_refused text_fault stands) (first_refused other stands') = one_type_refusal declared (codes "T1") text1 text_fault other stands stands'
-  sub_one _ _ (first_refused text_fault stands) (second_refused a a_is other stands') = absurd (reads_unrefused declared text1 a a_is text_fault stands)
-  sub_one _ _ (second_refused c c_is text_fault stands) (yes a b a_is b_is within) = absurd (reads_unrefused declared text2 b b_is text_fault stands)
-  sub_one _ _ (second_refused c c_is text_fault stands) (no a b a_is b_is element is inside outside) = absurd (reads_unrefused declared text2 b b_is text_fault stands)
-  sub_one _ _ (second_refused c c_is text_fault stands) (first_refused other stands') = absurd (reads_unrefused declared text1 c c_is other stands')
-  sub_one _ _ (second_refused c c_is text_fault stands) (second_refused a a_is other stands') = one_type_refusal declared (codes "T2") text2 text_fault other stands stands'
+  sub_one _ _ (no a b a_is b_is element is inside outside) (first_refused found stands) = absurd (reads_unrefused declared text1 a a_is found stands)
+  sub_one _ _ (no a b a_is b_is element is inside outside) (second_refused c c_is found stands) = absurd (reads_unrefused declared text2 b b_is found stands)
+  sub_one _ _ (first_refused found stands) (yes a b a_is b_is within) = absurd (reads_unrefused declared text1 a a_is found stands)
+  sub_one _ _ (first_refused found stands) (no a b a_is b_is element is inside outside) = absurd (reads_unrefused declared text1 a a_is found stands)
+  sub_one _ _ (first_refused found stands) (first_refused other stands') = one_type_refusal declared (codes "T1") text1 found other stands stands'
+  sub_one _ _ (first_refused found stands) (second_refused a a_is other stands') = absurd (reads_unrefused declared text1 a a_is found stands)
+  sub_one _ _ (second_refused c c_is found stands) (yes a b a_is b_is within) = absurd (reads_unrefused declared text2 b b_is found stands)
+  sub_one _ _ (second_refused c c_is found stands) (no a b a_is b_is element is inside outside) = absurd (reads_unrefused declared text2 b b_is found stands)
+  sub_one _ _ (second_refused c c_is found stands) (first_refused other stands') = absurd (reads_unrefused declared text1 c c_is other stands')
+  sub_one _ _ (second_refused c c_is found stands) (second_refused a a_is other stands') = one_type_refusal declared (codes "T2") text2 found other stands stands'
 
 -- a file that is known has one content at most
 one_content : (disk : Disk) (file : Bytes) → IsKnown disk file → (a b : Bytes) → Has disk file a → Has disk file b → a ≡ b
@@ -108,37 +109,37 @@ module _ (disk : Disk) (file : Bytes) (known : IsKnown disk file) where
       let large : LARGEST < length b = subst (λ bs. LARGEST < length bs) (same_two a b first second) is in
       omega arith
 
-  module _ (refuses : Bytes → TextFault → Type 0) where
-    file_one : ((text : Bytes) (a b : TextFault) → refuses text a → refuses text b → (refusal file text a).status ≡ (refusal file text b).status)
+  module _ (refuses : Bytes → Refusal → Type 0) where
+    file_one : ((text : Bytes) (a b : Refusal) → refuses text a → refuses text b → (refusal file text a).status ≡ (refusal file text b).status)
         → (r s : Reply) → FileRefusal refuses disk file r → FileRefusal refuses disk file s → r.status ≡ s.status
     file_one one _ _ (unread unreadable) (unread unreadable') = refl
     file_one one _ _ (unread unreadable) (large bytes has is) = absurd (has.read unreadable)
     file_one one _ _ (unread unreadable) (encoding bytes has size is) = absurd (has.read unreadable)
-    file_one one _ _ (unread unreadable) (refused text has text_fault stands) = absurd (has.has.read unreadable)
+    file_one one _ _ (unread unreadable) (refused text has found stands) = absurd (has.has.read unreadable)
     file_one one _ _ (large bytes has is) (unread unreadable) = absurd (has.read unreadable)
     file_one one _ _ (large bytes has is) (large bytes' has' is') = refl
     file_one one _ _ (large bytes has is) (encoding bytes' has' size is') = absurd (large_or_not bytes bytes' has is has' size)
-    file_one one _ _ (large bytes has is) (refused text has' text_fault stands) = absurd (text_or_large text bytes has' has is)
+    file_one one _ _ (large bytes has is) (refused text has' found stands) = absurd (text_or_large text bytes has' has is)
     file_one one _ _ (encoding bytes has size is) (unread unreadable) = absurd (has.read unreadable)
     file_one one _ _ (encoding bytes has size is) (large bytes' has' is') = absurd (large_or_not bytes' bytes has' is' has size)
     file_one one _ _ (encoding bytes has size is) (encoding bytes' has' size' is') = refl
-    file_one one _ _ (encoding bytes has size is) (refused text has' text_fault stands) = absurd (text_or_not text bytes has' has is)
-    file_one one _ _ (refused text has text_fault stands) (unread unreadable) = absurd (has.has.read unreadable)
-    file_one one _ _ (refused text has text_fault stands) (large bytes has' is) = absurd (text_or_large text bytes has has' is)
-    file_one one _ _ (refused text has text_fault stands) (encoding bytes has' size is) = absurd (text_or_not text bytes has has' is)
-    file_one one _ _ (refused text has text_fault stands) (refused text' has' text_fault' stands') =
+    file_one one _ _ (encoding bytes has size is) (refused text has' found stands) = absurd (text_or_not text bytes has' has is)
+    file_one one _ _ (refused text has found stands) (unread unreadable) = absurd (has.has.read unreadable)
+    file_one one _ _ (refused text has found stands) (large bytes has' is) = absurd (text_or_large text bytes has has' is)
+    file_one one _ _ (refused text has found stands) (encoding bytes has' size is) = absurd (text_or_not text bytes has has' is)
+    file_one one _ _ (refused text has found stands) (refused text' has' found' stands') =
         let same = same_two text' text has'.has has.has in
-        one text text_fault text_fault' stands (subst (λ t. refuses t text_fault') same stands')
-        ∙ ap (λ t. (refusal file t text_fault').status) (sym same)
+        one text found found' stands (subst (λ t. refuses t found') same stands')
+        ∙ ap (λ t. (refusal file t found').status) (sym same)
 
     -- a file that is refused has no text against which nothing stands
     refused_or_not : (reply : Reply) (text : Bytes) → FileRefusal refuses disk file reply → HasText disk file text
-        → ((text_fault : TextFault) → refuses text text_fault → ⊥) → ⊥
+        → ((found : Refusal) → refuses text found → ⊥) → ⊥
     refused_or_not _ text (unread unreadable) has none = has.has.read unreadable
     refused_or_not _ text (large bytes other is) has none = text_or_large text bytes has other is
     refused_or_not _ text (encoding bytes other size is) has none = text_or_not text bytes has other is
-    refused_or_not _ text (refused text' other text_fault stands) has none =
-        none text_fault (subst (λ t. refuses t text_fault) (same_two text' text other.has has.has) stands)
+    refused_or_not _ text (refused text' other found stands) has none =
+        none found (subst (λ t. refuses t found) (same_two text' text other.has has.has) stands)
 
   -- it declares one list
   one_list : (text text' : Bytes) (declared declared' : Declarations) → HasText disk file text → HasText disk file text'
@@ -235,27 +236,27 @@ module _ (disk : Disk) (file document text : Bytes) (known : IsKnown disk file) 
   declared_one first second one other = one_list disk file known one.text other.text first second one.has other.has one.declares other.declares
 
   unread_type : {A : Type 0} (first second : Declarations) → FileDeclares disk file first → FileDeclares disk file second
-      → (text_fault : TextFault) → RefusesType first text text_fault → (type : Written) → ReadsAs second text type → A
-  unread_type first second one other text_fault stands type reads =
-      absurd (reads_unrefused first text type (subst (λ list. ReadsAs list text type) (declared_one first second one other) reads) text_fault stands)
+      → (found : Refusal) → RefusesType first text found → (type : Written) → ReadsAs second text type → A
+  unread_type first second one other found stands type reads =
+      absurd (reads_unrefused first text type (subst (λ list. ReadsAs list text type) (declared_one first second one other) reads) found stands)
 
   member_one : (r s : Reply) → MemberAnswer disk file document text r → MemberAnswer disk file document text s → r.status ≡ s.status
   member_one _ _ (member.file_refused r refusal) (member.file_refused s refusal') = declarations_one disk file known r s refusal refusal'
-  member_one _ _ (member.file_refused r refusal) (member.type_refused declared declares text_fault stands) =
+  member_one _ _ (member.file_refused r refusal) (member.type_refused declared declares found stands) =
       undeclared disk file known r declares.text declared refusal declares.has declares.declares
   member_one _ _ (member.file_refused r refusal) (member.on_document declared declares type reads s answers) =
       undeclared disk file known r declares.text declared refusal declares.has declares.declares
-  member_one _ _ (member.type_refused declared declares text_fault stands) (member.file_refused s refusal) =
+  member_one _ _ (member.type_refused declared declares found stands) (member.file_refused s refusal) =
       undeclared disk file known s declares.text declared refusal declares.has declares.declares
-  member_one _ _ (member.type_refused declared declares text_fault stands) (member.type_refused declared' declares' text_fault' stands') =
-      one_type_refusal declared (codes "T") text text_fault text_fault' stands
-      (subst (λ list. RefusesType list text text_fault') (declared_one declared declared' declares declares') stands')
-  member_one _ _ (member.type_refused declared declares text_fault stands) (member.on_document declared' declares' type reads s answers) =
-      unread_type declared declared' declares declares' text_fault stands type reads
+  member_one _ _ (member.type_refused declared declares found stands) (member.type_refused declared' declares' found' stands') =
+      one_type_refusal declared (codes "T") text found found' stands
+      (subst (λ list. RefusesType list text found') (declared_one declared declared' declares declares') stands')
+  member_one _ _ (member.type_refused declared declares found stands) (member.on_document declared' declares' type reads s answers) =
+      unread_type declared declared' declares declares' found stands type reads
   member_one _ _ (member.on_document declared declares type reads r answers) (member.file_refused s refusal) =
       undeclared disk file known s declares.text declared refusal declares.has declares.declares
-  member_one _ _ (member.on_document declared declares type reads r answers) (member.type_refused declared' declares' text_fault stands) =
-      unread_type declared' declared declares' declares text_fault stands type reads
+  member_one _ _ (member.on_document declared declares type reads r answers) (member.type_refused declared' declares' found stands) =
+      unread_type declared' declared declares' declares found stands type reads
   member_one _ _ (member.on_document declared declares type reads r answers) (member.on_document declared' declares' type' reads' s answers') =
       let same = reads_one declared text type' type
       (subst (λ list. ReadsAs list text type') (declared_one declared declared' declares declares') reads') reads in

@@ -5,7 +5,7 @@ use Rattle.cd_base.specs.declared.status.Status.{Status}
 use Rattle.cd_base.specs.declared.status.Status.TheVariants.{WriteFault, NoMemory}
 use Rattle.cd_base.specs.Faults.{Rose}
 use Rattle.cd_base.specs.FilesState.{FilesState}
-use Rattle.cd_syntax.specs.declared.tokens.LexError.TheVariants.{Memory}
+use Rattle.cd_syntax.specs.declared.fault.TextFault.TheVariants.{BadChar, OpenText, OpenComment, TooWide, Syntax, TooDeep}
 use Rattle.cd_syntax.specs.TypeTree.{Declarations, NoDeclaration}
 use Rattle.cd_model.specs.Written.{Written}
 use Rattle.cd_replies.specs.Bytes.{Bytes}
@@ -13,8 +13,10 @@ use Rattle.cd_driver.specs.Command.{Command, Sub, SubTypes, Member, Check, Run, 
 use Rattle.cd_driver.specs.Command.{files_of, program_of}
 use Rattle.cd_model.specs.AllOf.{AnyOf}
 use Rattle.cd_model.specs.Thing.{Thing}
-use Rattle.cd_replies.specs.Texts.{TextFault, Lexical, ReadsAs, RefusesDeclarations, RefusesProgram}
+use Rattle.cd_replies.specs.Texts.{ReadsAs, RefusesDeclarations, RefusesProgram}
 use Rattle.cd_replies.specs.Reply.{Reply, refusal}
+use Rattle.cd_replies.specs.declared.refusal.Refusal.{Refusal}
+use Rattle.cd_replies.specs.declared.refusal.Refusal.TheVariants.{Text, Naming}
 use Rattle.cd_driver.specs.Outside.{Outside}
 use Rattle.cd_replies.specs.Disk.{Disk, Encountered, HasText, all_read, unreadable, FileRefusal, unread, large, encoding, refused}
 use Rattle.cd_sub.specs.SubAnswer.{SubAnswer, yes, no, first_refused, second_refused}
@@ -34,7 +36,7 @@ use Rattle.cd_running.specs.RunAnswer.{HasRun, RunAnswer, UNITS}
 use Rattle.cd_work.specs.WorkAnswer.{WorkAnswer, worked}
 use Rattle.cd_driver.specs.Answer.{Answer, AnswerOf}
 use Rattle.cd_driver.specs.Causes.{IsCause, Cause}
-use Rattle.cd_driver.specs.Reasons.{ParseAsTexts, alone, with_file, HasTextFault, in_file, in_first, in_second, Reason}
+use Rattle.cd_driver.specs.Reasons.{ParseAsTexts, alone, with_file, HasRefusal, in_file, in_first, in_second, Reason}
 use Rattle.cd_driver.specs.Reasons.{NamesFile, AskRun, HasEnded, in_declarations, in_type, in_document, in_program, in_run}
 
 -- a file that is unreadable is the latest whose read failed
@@ -45,12 +47,18 @@ read_failed before after _ name (unreadable other rose last) is = (rose, subst (
 
 module _ (words : List Bytes) (disk : Disk) (before after : Outside) (encountered : Encountered before.files after.files disk) where
   -- what stands against a text is the reason for what is said of it
-  refused_reason : (origin text : Bytes) (text_fault : TextFault) → HasTextFault words disk text_fault → Reason words before after (refusal origin text text_fault).status
-  refused_reason origin text (Lexical Memory) stands = record { disk = disk; encountered = encountered; text_fault = _; kind = (_, refl); stands = stands }
-  refused_reason origin text text_fault stands = record { disk = disk; encountered = encountered; text_fault = _; kind = (_, refl); stands = stands }
+  refused_reason : (origin text : Bytes) (found : Refusal) → HasRefusal words disk found → Reason words before after (refusal origin text found).status
+  refused_reason origin text (Text (BadChar place)) stands = record { disk = disk; encountered = encountered; found = _; kind = tt; stands = stands }
+  refused_reason origin text (Text (OpenText place)) stands = record { disk = disk; encountered = encountered; found = _; kind = tt; stands = stands }
+  refused_reason origin text (Text (OpenComment place)) stands = record { disk = disk; encountered = encountered; found = _; kind = tt; stands = stands }
+  refused_reason origin text (Text (TooWide place)) stands = record { disk = disk; encountered = encountered; found = _; kind = tt; stands = stands }
+  refused_reason origin text (Text (Syntax place)) stands = record { disk = disk; encountered = encountered; found = _; kind = (place, refl); stands = stands }
+  refused_reason origin text (Text (TooDeep place)) stands = record { disk = disk; encountered = encountered; found = _; kind = (place, refl); stands = stands }
+  refused_reason origin text (Naming fault name at) stands =
+      record { disk = disk; encountered = encountered; found = _; kind = (record { fault = fault; name = name; at = at }, refl); stands = stands }
 
-  file_reason : (refuses : Bytes → TextFault → Type 0) (file : Bytes) → NamesFile words file
-      → ((text : Bytes) → HasText disk file text → (text_fault : TextFault) → refuses text text_fault → HasTextFault words disk text_fault)
+  file_reason : (refuses : Bytes → Refusal → Type 0) (file : Bytes) → NamesFile words file
+      → ((text : Bytes) → HasText disk file text → (found : Refusal) → refuses text found → HasRefusal words disk found)
       → (reply : Reply) → FileRefusal refuses disk file reply → Reason words before after reply.status
   file_reason refuses file named stand _ (unread is) =
       let failed = read_failed before.files after.files disk file encountered is in
@@ -59,14 +67,14 @@ module _ (words : List Bytes) (disk : Disk) (before after : Outside) (encountere
       record { disk = disk; encountered = encountered; file = file; named = named; bytes = bytes; has = has; is = is }
   file_reason refuses file named stand _ (encoding bytes has size is) =
       record { disk = disk; encountered = encountered; file = file; named = named; bytes = bytes; has = has; is = (size, is) }
-  file_reason refuses file named stand _ (refused text has text_fault stands) = refused_reason file text text_fault (stand text has text_fault stands)
+  file_reason refuses file named stand _ (refused text has found stands) = refused_reason file text found (stand text has found stands)
 
   sub_reason : (declared : Declarations) (text1 text2 : Bytes) → ParseAsTexts words disk declared text1 text2
       → (reply : Reply) → SubAnswer declared text1 text2 reply → Reason words before after reply.status
-  sub_reason declared text1 text2 parse _ (first_refused text_fault stands) =
-      refused_reason (codes "T1") text1 text_fault (in_first declared text1 text2 parse stands)
-  sub_reason declared text1 text2 parse _ (second_refused first is1 text_fault stands) =
-      refused_reason (codes "T2") text2 text_fault (in_second declared text1 text2 parse first is1 stands)
+  sub_reason declared text1 text2 parse _ (first_refused found stands) =
+      refused_reason (codes "T1") text1 found (in_first declared text1 text2 parse stands)
+  sub_reason declared text1 text2 parse _ (second_refused first is1 found stands) =
+      refused_reason (codes "T2") text2 found (in_second declared text1 text2 parse first is1 stands)
   sub_reason declared text1 text2 parse _ (yes first second is1 is2 within) = inl (record {
     first = first;
     second = second;
@@ -86,7 +94,7 @@ module _ (words : List Bytes) (disk : Disk) (before after : Outside) (encountere
   sub_types_reason : (file text1 text2 : Bytes) → ParseAs words (SubTypes file text1 text2) → (reply : Reply) → SubTypesAnswer disk file text1 text2 reply → Reason words before after reply.status
   sub_types_reason file text1 text2 parse _ (file_refused reply refusal) =
       file_reason RefusesDeclarations file (record { command = SubTypes file text1 text2; parse = parse; is = inl refl })
-      (λ text has text_fault stands. in_file file text1 text2 parse text has stands) reply refusal
+      (λ text has found stands. in_file file text1 text2 parse text has stands) reply refusal
   sub_types_reason file text1 text2 parse _ (on_texts text has declared declares reply answers) =
       sub_reason declared text1 text2 (with_file file text1 text2 parse text has declared declares) reply answers
 
@@ -94,7 +102,7 @@ module _ (words : List Bytes) (disk : Disk) (before after : Outside) (encountere
       → (type : Written) → ReadsAs declared text type → (reply : Reply) → DocumentAnswer disk document type reply → Reason words before after reply.status
   document_reason file document text parse declared declares type reads _ (member.document_refused reply refusal) =
       file_reason RefusesDocument document (record { command = Member file document text; parse = parse; is = inr (inl refl) })
-      (λ notation has text_fault stands. in_document file document text parse declared declares type reads notation has stands) reply refusal
+      (λ notation has found stands. in_document file document text parse declared declares type reads notation has stands) reply refusal
   document_reason file document text parse declared declares type reads _ (member.yes v writes inside) = inr (inl (record {
     v = v;
     type = type;
@@ -112,9 +120,9 @@ module _ (words : List Bytes) (disk : Disk) (before after : Outside) (encountere
       → Reason words before after reply.status
   member_reason file document text parse _ (member.file_refused reply refusal) =
       file_reason RefusesDeclarations file (record { command = Member file document text; parse = parse; is = inl refl })
-      (λ declarations has text_fault stands. in_declarations file document text parse declarations has stands) reply refusal
-  member_reason file document text parse _ (member.type_refused declared declares text_fault stands) =
-      refused_reason (codes "T") text text_fault (in_type file document text parse declared declares stands)
+      (λ declarations has found stands. in_declarations file document text parse declarations has stands) reply refusal
+  member_reason file document text parse _ (member.type_refused declared declares found stands) =
+      refused_reason (codes "T") text found (in_type file document text parse declared declares stands)
   member_reason file document text parse _ (member.on_document declared declares type reads reply answers) =
       document_reason file document text parse declared declares type reads reply answers
 
@@ -142,7 +150,7 @@ module _ (words : List Bytes) (disk : Disk) (before after : Outside) (encountere
       → Reason words before after reply.status
   check_reason file parse _ (checking.file_refused reply refusal) =
       file_reason RefusesProgram file (record { command = Check file; parse = parse; is = inl refl })
-      (λ text has text_fault stands. in_program (Check file) file parse refl text has stands) reply refusal
+      (λ text has found stands. in_program (Check file) file parse refl text has stands) reply refusal
   check_reason file parse _ (checking.on_program text program has reply answers) =
       program_reason file parse text program has reply answers
 
@@ -179,11 +187,11 @@ module _ (words : List Bytes) (disk : Disk) (before after : Outside) (encountere
 
     run_reason : (reply : Reply) → RunAnswer disk units file document reply → Reason words before after reply.status
     run_reason _ (run.file_refused reply refusal) =
-        file_reason RefusesProgram file names_file (λ text has text_fault stands. in_program command file parse about text has stands) reply refusal
+        file_reason RefusesProgram file names_file (λ text has found stands. in_program command file parse about text has stands) reply refusal
     run_reason _ (run.program_refused text program has reply reports) = fault_reason command file parse about text program has reply reports
     run_reason _ (run.document_refused program has reply refusal) =
         file_reason RefusesDocument document names_document
-        (λ notation is text_fault stands. in_run units file document asks program has notation is stands) reply refusal
+        (λ notation is found stands. in_run units file document asks program has notation is stands) reply refusal
     run_reason _ (run.not_input given outside) = record {
       disk = disk;
       units = units;

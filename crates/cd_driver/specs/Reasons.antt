@@ -4,7 +4,8 @@ use Rattle.std.specs.Str.{IsUtf8}
 use Rattle.cd_base.specs.declared.status.Status.{Status}
 use Rattle.cd_base.specs.declared.status.Status.TheVariants as status
 use Rattle.cd_base.specs.Faults.{Rose}
-use Rattle.cd_syntax.specs.declared.tokens.LexError.{LexError}
+use Rattle.cd_syntax.specs.declared.fault.TextFault.TheVariants.{BadChar, OpenText, OpenComment}
+use Rattle.cd_syntax.specs.declared.fault.TextFault.TheVariants.{TooWide, Syntax, TooDeep}
 use Rattle.cd_model.specs.Thing.{Thing, IsElement}
 use Rattle.cd_syntax.specs.TypeTree.{Declarations, NoDeclaration}
 use Rattle.cd_program.specs.Expr.{Program}
@@ -15,13 +16,16 @@ use Rattle.cd_model.specs.AllOf.{AnyOf}
 use Rattle.cd_driver.specs.Command.{Command, Sub, SubTypes, Member, Check, Work, ParseAs}
 use Rattle.cd_driver.specs.Command.{ParseAsRun}
 use Rattle.cd_driver.specs.Command.{AreNoCommand, files_of, program_of}
-use Rattle.cd_replies.specs.Texts.{TextFault, Lexical, Syntax, TooDeep, Naming, ReadsAs, Declares}
+use Rattle.cd_replies.specs.Refusals.{naming_of}
+use Rattle.cd_replies.specs.Texts.{ReadsAs, Declares}
 use Rattle.cd_replies.specs.Texts.{RefusesType, RefusesDeclarations, RefusesProgram}
 use Rattle.cd_replies.specs.Within.{IsIn, IsOutside, IsWithin}
 use Rattle.cd_driver.specs.Outside.{Outside}
 use Rattle.cd_replies.specs.Disk.{Disk, Encountered, Has, HasText, LARGEST}
 use Rattle.cd_driver.specs.Causes.{SinkFailed}
 use Rattle.cd_replies.specs.Documents.{RefusesDocument, FileWrites, IsValueIn, IsValueOutside}
+use Rattle.cd_replies.specs.declared.refusal.Refusal.{Refusal}
+use Rattle.cd_replies.specs.declared.refusal.Refusal.TheVariants.{Text}
 use Rattle.cd_member.specs.MemberAnswer.{FileDeclares}
 use Rattle.cd_typing.specs.Typed.{IsTyped}
 use Rattle.cd_checking.specs.CheckAnswer.{FileHasProgram}
@@ -100,55 +104,59 @@ pub record IsNoMember (words : List Bytes) (before after : Outside) : Type 0 whe
   pub outside : IsValueOutside v type
 
 -- this stands against a text that the words give
-pub data HasTextFault (words : List Bytes) (disk : Disk) (text_fault : TextFault) : Type 0 where
+pub data HasRefusal (words : List Bytes) (disk : Disk) (found : Refusal) : Type 0 where
   in_file : (file text1 text2 : Bytes) → ParseAs words (SubTypes file text1 text2) → (text : Bytes)
       → HasText disk file text
-      → RefusesDeclarations text text_fault → HasTextFault words disk text_fault
+      → RefusesDeclarations text found → HasRefusal words disk found
   in_first : (declared : Declarations) (text1 text2 : Bytes)
       → ParseAsTexts words disk declared text1 text2
-      → RefusesType declared text1 text_fault → HasTextFault words disk text_fault
+      → RefusesType declared text1 found → HasRefusal words disk found
   in_second : (declared : Declarations) (text1 text2 : Bytes)
       → ParseAsTexts words disk declared text1 text2
-      → (first : Written) → ReadsAs declared text1 first → RefusesType declared text2 text_fault
-      → HasTextFault words disk text_fault
+      → (first : Written) → ReadsAs declared text1 first → RefusesType declared text2 found
+      → HasRefusal words disk found
   in_declarations : (file document text : Bytes) → ParseAs words (Member file document text)
       → (declarations : Bytes) → HasText disk file declarations
-      → RefusesDeclarations declarations text_fault → HasTextFault words disk text_fault
+      → RefusesDeclarations declarations found → HasRefusal words disk found
   in_type : (file document text : Bytes) → ParseAs words (Member file document text)
       → (declared : Declarations) → FileDeclares disk file declared
-      → RefusesType declared text text_fault → HasTextFault words disk text_fault
+      → RefusesType declared text found → HasRefusal words disk found
   in_document : (file document text : Bytes) → ParseAs words (Member file document text)
       → (declared : Declarations) → FileDeclares disk file declared → (type : Written)
       → ReadsAs declared text type → (notation : Bytes) → HasText disk document notation
-      → RefusesDocument notation text_fault → HasTextFault words disk text_fault
+      → RefusesDocument notation found → HasRefusal words disk found
   in_program : (command : Command) (file : Bytes) → ParseAs words command
       → program_of command ≡ Some file → (text : Bytes) → HasText disk file text
-      → RefusesProgram text text_fault → HasTextFault words disk text_fault
+      → RefusesProgram text found → HasRefusal words disk found
   in_run : (units : ℕ) (file document : Bytes) → ParseAsRun words units file document
       → (program : Program) → FileHasTyped disk file program → (notation : Bytes)
       → HasText disk document notation
-      → RefusesDocument notation text_fault → HasTextFault words disk text_fault
+      → RefusesDocument notation found → HasRefusal words disk found
 
 -- and it is of this kind
 pub record IsRefused (words : List Bytes) (before after : Outside)
-    (is : TextFault → Type 0) : Type 0 where
+    (is : Refusal → Type 0) : Type 0 where
   pub disk : Disk
   pub encountered : Encountered before.files after.files disk
-  pub text_fault : TextFault
-  pub kind : is text_fault
-  pub stands : HasTextFault words disk text_fault
+  pub found : Refusal
+  pub kind : is found
+  pub stands : HasRefusal words disk found
 
-abbrev pub IsLexical : TextFault → Type 0
-IsLexical text_fault = (fault : LexError) × (text_fault ≡ Lexical fault)
+abbrev pub IsLexical : Refusal → Type 0
+IsLexical (Text (BadChar place)) = Unit {0}
+IsLexical (Text (OpenText place)) = Unit {0}
+IsLexical (Text (OpenComment place)) = Unit {0}
+IsLexical (Text (TooWide place)) = Unit {0}
+IsLexical found = ⊥
 
-abbrev pub IsSyntax : TextFault → Type 0
-IsSyntax text_fault = (place : _) × (text_fault ≡ Syntax place)
+abbrev pub IsSyntax : Refusal → Type 0
+IsSyntax found = (place : ℕ) × (found ≡ Text (Syntax place))
 
-abbrev pub IsTooDeep : TextFault → Type 0
-IsTooDeep text_fault = (place : _) × (text_fault ≡ TooDeep place)
+abbrev pub IsTooDeep : Refusal → Type 0
+IsTooDeep found = (place : ℕ) × (found ≡ Text (TooDeep place))
 
-abbrev pub IsNaming : TextFault → Type 0
-IsNaming text_fault = (fault : Fault) × (text_fault ≡ Naming fault)
+abbrev pub IsNaming : Refusal → Type 0
+IsNaming found = (fault : Fault) × (found ≡ naming_of fault)
 
 -- the words' command reads a file of this name
 pub record NamesFile (words : List Bytes) (file : Bytes) : Type 0 where

@@ -8,7 +8,8 @@ use Rattle.cd_names.specs.ProgramFaults.{in_types}
 use Rattle.cd_typing.specs.Typed.{IsTyped}
 use Rattle.cd_replies.specs.Bytes.{Bytes}
 use Rattle.cd_replies.specs.Naming.{RefusesNames, naming}
-use Rattle.cd_replies.specs.Texts.{TextFault, ReadsAsProgram}
+use Rattle.cd_replies.specs.Texts.{ReadsAsProgram}
+use Rattle.cd_replies.specs.declared.refusal.Refusal.{Refusal}
 use Rattle.cd_running.specs.TypedProgram.{IsTypedProgram}
 use Rattle.cd_running.proofs.Characters.{characters_scalar}
 
@@ -23,5 +24,5 @@ typed_program text program utf8 reads made typed = record {
   constants = constants_are_elements (chars text) reads.tokens 1000 program (characters_scalar text utf8) reads.spelled reads.written;
 }
 
-pub names_sound : (program : Program) → IsTypedProgram program → (text_fault : TextFault) → RefusesNames program.types text_fault → ⊥
+pub names_sound : (program : Program) → IsTypedProgram program → (found : Refusal) → RefusesNames program.types found → ⊥
 names_sound program typed _ (naming fault reported) = typed.sound fault (in_types fault reported.is)

@@ -56,9 +56,8 @@ pub fn run<F: Files>(
         (file.now ∷ document.now ∷ []) }
 {
     match read_file(files, file) {
-        Err(error) => Err(error),
-        Ok(Err(fault)) => no_text(alloc, file, fault),
-        Ok(Ok(text)) => with_file(alloc, files, file, text.as_str(), document, units),
+        Ok(text) => with_file(alloc, files, file, text.as_str(), document, units),
+        Err(error) => no_text(alloc, file, error),
     }
 }
 
@@ -75,9 +74,9 @@ fn with_file<F: Files>(
         → RunAnswer disk units file.now document.now reply)
         (F.state files.old) (F.state files.new) document.now result }
 {
-    let program = match read_program(alloc, text)? {
+    let program = match read_program(alloc, text) {
         Ok(program) => program,
-        Err(refusal) => return refused(alloc, file, text, refusal),
+        Err(error) => return refused(alloc, file, text, error),
     };
     match no_types(alloc, file, text, &program)? {
         None => with_types(alloc, files, &program, document, units),
@@ -98,9 +97,8 @@ fn with_types<F: Files>(
         (F.state files.old) (F.state files.new) document.now result }
 {
     match read_file(files, document) {
-        Err(error) => Err(error),
-        Ok(Err(fault)) => no_text(alloc, document, fault),
-        Ok(Ok(text)) => of_text(alloc, program, document, text.as_str(), units),
+        Ok(text) => of_text(alloc, program, document, text.as_str(), units),
+        Err(error) => no_text(alloc, document, error),
     }
 }
 
@@ -117,9 +115,9 @@ fn of_text(
         → OnDocument (plain_program program.now) units document.now disk (reply_of message)) }
 {
     let mut values = Values::new(alloc);
-    match read_document(alloc, &mut values, text)? {
+    match read_document(alloc, &mut values, text) {
         Ok(value) => of_value(alloc, program, document, &mut values, value, units),
-        Err(refusal) => refused(alloc, document, text, refusal),
+        Err(error) => refused(alloc, document, text, error),
     }
 }
 

@@ -19,6 +19,7 @@ use cd_empty::World;
 use cd_machine::{Ran, run};
 use cd_program::program::Program;
 use cd_replies::naming::declare;
+use cd_replies::refusal::RefusalError;
 use cd_resolve::Names;
 use cd_safety::laws::typed_programs_have_main;
 use std::alloc::{AllocError, Global};
@@ -67,9 +68,10 @@ fn in_world(
     ensures within { IfOk result
         (λ ran. IfSome ran (λ ran. IsOutcome (length (table values.new)) ran.outcome)) }
 {
-    match declare(alloc, world, &program.types)? {
+    match declare(alloc, world, &program.types) {
         Ok(names) => with_names(alloc, world, &names, program, values, value, units),
-        Err(_) => unreachable!(),
+        Err(RefusalError::Memory) => Err(AllocError),
+        Err(RefusalError::Refused(_)) => unreachable!(),
     }
 }
 

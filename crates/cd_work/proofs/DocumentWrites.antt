@@ -4,8 +4,8 @@ use Rattle.std.specs.Str.{chars}
 use Rattle.cd_model.specs.Thing.{Thing}
 use Rattle.cd_documents.specs.Reading.{WritesValue}
 use Rattle.cd_print.proofs.ReadBack.{read_back}
-use Rattle.cd_replies.specs.Texts.{TextFault}
 use Rattle.cd_replies.specs.Documents.{RefusesDocument}
+use Rattle.cd_replies.specs.declared.refusal.Refusal.{Refusal}
 use Rattle.cd_replies.proofs.OneDocument.{writes_one, writes_unrefused}
 use Rattle.cd_work.specs.Workload.{document_text}
 use Rattle.cd_work.specs.Inner.WorkValues.{document}
@@ -23,5 +23,5 @@ document_writes size small =
 pub one_document : (size : ℕ) → size ≤ 100000 → (v : Thing) → WritesValue (chars (document_text size)) v → v ≡ document size
 one_document size small v writes = writes_one (document_text size) v (document size) writes (document_writes size small)
 
-pub document_is_not_refused : (size : ℕ) → size ≤ 100000 → (text_fault : TextFault) → RefusesDocument (document_text size) text_fault → ⊥
+pub document_is_not_refused : (size : ℕ) → size ≤ 100000 → (found : Refusal) → RefusesDocument (document_text size) found → ⊥
 document_is_not_refused size small = writes_unrefused (document_text size) (document size) (document_writes size small)

@@ -4,7 +4,8 @@ use Rattle.std.specs.Str.{chars, IsUtf8}
 use Rattle.cd_program.specs.Expr.{Program}
 use Rattle.cd_program.specs.WellMade.{IsWellMadeProgram}
 use Rattle.cd_grammar.proofs.MadeWell.{text_makes_program}
-use Rattle.cd_replies.specs.Texts.{ReadsAsProgram, TextFault, RefusesProgram}
+use Rattle.cd_replies.specs.Texts.{ReadsAsProgram, RefusesProgram}
+use Rattle.cd_replies.specs.declared.refusal.Refusal.{Refusal}
 use Rattle.cd_replies.proofs.OneRefusal.{reads_one_program, program_unrefused}
 use Rattle.cd_work.specs.Workload.{program_text}
 use Rattle.cd_work.specs.Inner.WorkProgram.{work_program}
@@ -29,7 +30,7 @@ program_reads = record {
 pub one_program : (program : Program) → ReadsAsProgram program_text program → program ≡ work_program
 one_program program reads = reads_one_program program_text program work_program reads program_reads
 
-pub program_is_not_refused : (text_fault : TextFault) → RefusesProgram program_text text_fault → ⊥
+pub program_is_not_refused : (found : Refusal) → RefusesProgram program_text found → ⊥
 program_is_not_refused = program_unrefused program_text work_program program_reads
 
 pub program_is_well_made : IsWellMadeProgram work_program

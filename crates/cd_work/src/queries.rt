@@ -14,6 +14,7 @@ ghost use Rattle.cd_work.specs.Inner.Asking.{query_type, AnswersQuery, Keeps};
 use crate::query::query;
 use cd_empty::World;
 use cd_replies::naming::declare;
+use cd_replies::refusal::RefusalError;
 use cd_resolve::error::NameError;
 use cd_resolve::{Names, resolve_type};
 use cd_sets::node_id::NodeId;
@@ -42,9 +43,10 @@ fn count_with(alloc: Global, none: &Declarations, size: u32) -> Result<u32, Allo
     ensures { IfOk result (λ yes. Answered size yes) }
 {
     let mut world = World::new(alloc)?;
-    match declare(alloc, &mut world, none)? {
+    match declare(alloc, &mut world, none) {
         Ok(names) => count(alloc, &mut world, &names, size),
-        Err(_) => unreachable!(),
+        Err(RefusalError::Memory) => Err(AllocError),
+        Err(RefusalError::Refused(_)) => unreachable!(),
     }
 }
 

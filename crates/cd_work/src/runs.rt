@@ -19,6 +19,7 @@ use cd_print::print_value;
 use cd_program::program::Program;
 use cd_replies::document::read_document;
 use cd_replies::reader::read_program;
+use cd_replies::refusal::RefusalError;
 use cd_running::{Outcome, Ran, run_on};
 use std::alloc::{AllocError, Global};
 
@@ -78,9 +79,10 @@ fn typed_program(alloc: Global) -> Result<Program, AllocError>
     ensures is { IfOk result (λ program. plain_program program ≡ work_program) }
     ensures typed { IfOk result (λ program. IsTypedProgram (plain_program program)) }
 {
-    let program = match read_program(alloc, PROGRAM)? {
+    let program = match read_program(alloc, PROGRAM) {
         Ok(program) => program,
-        Err(_) => unreachable!(),
+        Err(RefusalError::Memory) => return Err(AllocError),
+        Err(RefusalError::Refused(_)) => unreachable!(),
     };
     match no_types(alloc, "work", PROGRAM, &program)? {
         None => Ok(program),
@@ -95,8 +97,9 @@ fn document_value(alloc: Global, values: &mut Values, size: u32) -> Result<Value
     ensures is { IfOk result (λ id. thing_at (table values.new) id.0 ≡ document size) }
 {
     let text = work_document(alloc, size)?;
-    match read_document(alloc, values, text.as_str())? {
+    match read_document(alloc, values, text.as_str()) {
         Ok(value) => Ok(value),
-        Err(_) => unreachable!(),
+        Err(RefusalError::Memory) => Err(AllocError),
+        Err(RefusalError::Refused(_)) => unreachable!(),
     }
 }

@@ -1,9 +1,10 @@
 use Rattle.std.proofs.Common.{refl}
 use Rattle.cd_program.specs.PlainProgram.{plain_program}
 use Rattle.cd_replies.specs.Disk.{HasText, refused}
-use Rattle.cd_replies.specs.Message.{text_fault, reply_of}
+use Rattle.cd_replies.specs.Message.{reply_of}
 use Rattle.cd_replies.specs.Reply.{refusal}
-use Rattle.cd_replies.proofs.TwoFiles.{said_at_once, leads_to}
+use Rattle.cd_replies.specs.Texts.{RefusesProgram}
+use Rattle.cd_replies.proofs.TwoFiles.{said_at_once, refused_at_once, leads_to}
 use Rattle.cd_running.specs.Inner.OnDocument.{OnDocument}
 use Rattle.cd_running.specs.RunAnswer.{RunAnswer, file_refused, program_refused}
 use Rattle.cd_running.proofs.TypedPrograms.{typed_program}
@@ -12,15 +13,15 @@ use Rattle.cd_running.proofs.with_file.Goals as goal
 -- the program was read and has types
 pub with_types-requires : goal.with_types-requires
 with_types-requires g c =
-    typed_program c.args.text.now (plain_program c.in-Ok.program) c.utf8.text (rw c.in-Ok.is at c.in_ok-program.ensures.read)
-    (rw c.in-Ok.is at c.in_ok-program.ensures.well_made) (rw c.in-None.is at c.in_ok-no_types.ensures)
+    typed_program c.args.text.now (plain_program c.in-Ok.program) c.utf8.text c.in-Ok.ensures.read c.in-Ok.ensures.well_made
+    (rw c.in-None.is at c.in_ok-no_types.ensures)
 
 pub returns-in-None : goal.returns-in-None
 returns-in-None g c =
     let file = c.args.file.now in
     let text = c.args.text.now in
     let program = plain_program c.in-Ok.program in
-    let reads = rw c.in-Ok.is at c.in_ok-program.ensures.read in
+    let reads = c.in-Ok.ensures.read in
     let typed = rw c.in-None.is at c.in_ok-no_types.ensures in
     leads_to (OnDocument program c.args.units c.args.document.now)
     (λ disk reply. HasText disk file text → RunAnswer disk c.args.units file c.args.document.now reply)
@@ -33,20 +34,18 @@ returns g c =
     let file = c.args.file.now in
     let text = c.args.text.now in
     let program = plain_program c.in-Ok.program in
-    let reads = rw c.in-Ok.is at c.in_ok-program.ensures.read in
+    let reads = c.in-Ok.ensures.read in
     let reports = rw c.in-Some.is at c.in_ok-no_types.ensures in
     let said = reply_of c.in-Some.message in
     said_at_once (λ disk reply. HasText disk file text → RunAnswer disk c.args.units file c.args.document.now reply)
     _ c.args.document.now said _ refl
     (λ disk has. program_refused text program (record { has = has; reads = reads }) said reports)
 
--- or this stands against it
+-- or the text is refused
 pub returns-in-Err : goal.returns-in-Err
 returns-in-Err g c =
     let file = c.args.file.now in
     let text = c.args.text.now in
-    let stands = rw c.in-Err.is at c.in_ok-program.ensures.read in
-    let said = refusal file text (text_fault c.in-Err.refusal) in
-    said_at_once (λ disk reply. HasText disk file text → RunAnswer disk c.args.units file c.args.document.now reply)
-    _ c.args.document.now said c.refused.result c.refused.ensures
-    (λ disk has. file_refused said (refused text has (text_fault c.in-Err.refusal) stands))
+    refused_at_once (λ disk reply. HasText disk file text → RunAnswer disk c.args.units file c.args.document.now reply)
+    _ c.args.document.now file text c.in-Err.error (RefusesProgram text) c.in-Err.ensures.refused c.refused.result c.refused.ensures
+    (λ found stands disk has. file_refused (refusal file text found) (refused text has found stands))

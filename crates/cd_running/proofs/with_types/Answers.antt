@@ -4,9 +4,9 @@ use Rattle.cd_running.specs.Inner.OnDocument.{OnDocument}
 use Rattle.cd_running.specs.RunAnswer.{document_refused}
 use Rattle.cd_running.proofs.with_types.Goals as goal
 
-pub returns-in-Ok-Err : goal.returns-in-Ok-Err
-returns-in-Ok-Err g c =
+pub returns-in-Err : goal.returns-in-Err
+returns-in-Err g c =
     let program = plain_program c.args.program.now in
     no_document (OnDocument program c.args.units c.args.document.now)
-    _ _ c.args.document.now c.in-Ok-Err.fault (rw (c.in-Ok-Err.is, c.in-Ok-Err.field-0-is) at c.read_file.ensures) c.no_text.result c.no_text.ensures
+    _ _ c.args.document.now c.in-Err.error (rw c.in-Err.is at c.read_file.ensures) c.no_text.result c.no_text.ensures
     (λ disk reply refusal file has. document_refused program has reply refusal)

@@ -4,7 +4,6 @@ use Rattle.cd_cells.specs.Cells.{thing_at}
 use Rattle.cd_cells.specs.Table.{table}
 use Rattle.cd_documents.specs.Reading.{WritesValue}
 use Rattle.cd_replies.specs.Documents.{RefusesDocument}
-use Rattle.cd_replies.specs.Message.{text_fault}
 use Rattle.cd_work.specs.Workload.{document_text}
 use Rattle.cd_work.proofs.DocumentWrites.{one_document, document_is_not_refused}
 use Rattle.cd_work.proofs.runs.document_value.Goals as goal
@@ -13,8 +12,9 @@ use Rattle.cd_work.proofs.runs.document_value.Goals as goal
 pub unreachable-requires : goal.unreachable-requires
 unreachable-requires c =
     let text : c.as_str.result.now ≡ document_text c.args.size = c.as_str.ensures.value ∙ c.in_ok-text.ensures in
-    document_is_not_refused c.args.size c.requires.most (text_fault c.in-Err.field-0)
-    (subst (λ (text : List ℕ). RefusesDocument text (text_fault c.in-Err.field-0)) text (rw c.in-Err.is at c.in_ok-value.ensures.read))
+    document_is_not_refused c.args.size c.requires.most c.in-Err-Refused.field-0-0
+    (subst (λ (text : List ℕ). RefusesDocument text c.in-Err-Refused.field-0-0) text
+    (rw (c.in-Err-Refused.is, c.in-Err-Refused.field-0-is) at c.read_document.ensures.refused))
 
 -- which is this one
 pub returns-clause-is : goal.returns-clause-is
@@ -22,4 +22,4 @@ returns-clause-is c =
     let v = thing_at (table c.read_document.new.values) c.in-Ok.value.0 in
     let text : c.as_str.result.now ≡ document_text c.args.size = c.as_str.ensures.value ∙ c.in_ok-text.ensures in
     one_document c.args.size c.requires.most v
-    (subst (λ (text : List ℕ). WritesValue (chars text) v) text (rw c.in-Ok.is at c.in_ok-value.ensures.read))
+    (subst (λ (text : List ℕ). WritesValue (chars text) v) text c.in-Ok.ensures.read)
