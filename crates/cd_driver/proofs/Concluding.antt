@@ -24,7 +24,7 @@ use Rattle.cd_member.proofs.MemberReplies.{member_is_reply}
 use Rattle.cd_running.proofs.RunReplies.{run_is_reply}
 use Rattle.cd_running.specs.RunAnswer.{UNITS}
 use Rattle.cd_sub.proofs.SubReplies.{sub_is_reply, sub_types_is_reply}
-use Rattle.cd_work.proofs.WorkReplies.{work_is_reply}
+use Rattle.cd_running.proofs.WorkReplies.{work_is_reply}
 
 -- each answer is a reply
 command_is_reply : (disk : Disk) (command : Command) (reply : Reply) → AnswerOf command disk reply → IsReply reply

@@ -39,7 +39,7 @@ use Rattle.cd_running.specs.Input.{IsInput, IsNoInput}
 use Rattle.cd_running.proofs.InputDecided.{in_or_none}
 use Rattle.cd_running.specs.RunAnswer as run
 use Rattle.cd_running.specs.RunAnswer.{FileHasTyped, Given, HasRun, RunAnswer, UNITS}
-use Rattle.cd_work.specs.WorkAnswer.{WorkAnswer, worked}
+use Rattle.cd_running.specs.WorkAnswer.{WorkAnswer, worked}
 use Rattle.cd_driver.proofs.OneCommand.{one_command}
 use Rattle.cd_replies.proofs.OneRefusal.{one_type_refusal, one_declarations_refusal, reads_unrefused, declares_unrefused, reads_one, declares_one}
 use Rattle.cd_replies.proofs.OneRefusal.{one_program_refusal, program_unrefused, reads_one_program}

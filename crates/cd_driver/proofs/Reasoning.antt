@@ -33,7 +33,7 @@ use Rattle.cd_evaluation.specs.Runs.{Outcome, Result}
 use Rattle.cd_running.specs.Ending.{Reports, done, raised, overflow, spent}
 use Rattle.cd_running.specs.RunAnswer as run
 use Rattle.cd_running.specs.RunAnswer.{HasRun, RunAnswer, UNITS}
-use Rattle.cd_work.specs.WorkAnswer.{WorkAnswer, worked}
+use Rattle.cd_running.specs.WorkAnswer.{WorkAnswer, worked}
 use Rattle.cd_driver.specs.Answer.{Answer, AnswerOf}
 use Rattle.cd_driver.specs.Causes.{IsCause, Cause}
 use Rattle.cd_driver.specs.Reasons.{ParseAsTexts, alone, with_file, HasRefusal, in_file, in_first, in_second, Reason}

@@ -11,7 +11,7 @@ use Rattle.cd_checking.specs.CheckAnswer.{CheckAnswer}
 use Rattle.cd_member.specs.MemberAnswer.{MemberAnswer}
 use Rattle.cd_running.specs.RunAnswer.{RunAnswer, UNITS}
 use Rattle.cd_sub.specs.SubAnswer.{SubAnswer, SubTypesAnswer}
-use Rattle.cd_work.specs.WorkAnswer.{WorkAnswer}
+use Rattle.cd_running.specs.WorkAnswer.{WorkAnswer}
 
 -- the answers to a command, where the files are these
 abbrev pub AnswerOf : Command → Disk → Reply → Type 0

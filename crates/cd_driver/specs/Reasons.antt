@@ -33,8 +33,8 @@ use Rattle.cd_evaluation.specs.Runs as outcome
 use Rattle.cd_evaluation.specs.Runs.{Outcome, Result}
 use Rattle.cd_running.specs.Input.{IsNoInput}
 use Rattle.cd_running.specs.RunAnswer.{FileHasTyped, Given, HasRun}
-use Rattle.cd_work.specs.Queries.{Answered}
-use Rattle.cd_work.specs.WorkAnswer.{Runs}
+use Rattle.cd_running.specs.Queries.{Answered}
+use Rattle.cd_running.specs.WorkAnswer.{Runs}
 
 -- the words ask about two type texts, which see these declarations: none, or those of a file
 pub data ParseAsTexts (words : List Bytes) (disk : Disk) : Declarations → (text1 text2 : Bytes)

@@ -9,9 +9,8 @@ use cd_base::files::Files;
 use cd_checking::check;
 use cd_member::member;
 use cd_replies::message::{Message, usage};
-use cd_running::run;
+use cd_running::{run, work};
 use cd_sub::{sub, sub_types};
-use cd_work::work;
 use std::alloc::{AllocError, Global};
 
 /// The answer to words.

@@ -2,3 +2,7 @@
 pub mod OnDocument
 pub mod Inputs
 pub mod ArrowsLeft
+pub mod WorkProgram
+pub mod WorkValues
+pub mod WorkQueries
+pub mod Asking

@@ -3,4 +3,7 @@ pub mod Input
 pub mod TypedProgram
 pub mod RunsOn
 pub mod RunAnswer
+pub mod Workload
+pub mod Queries
+pub mod WorkAnswer
 pub mod Inner

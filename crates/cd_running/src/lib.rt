@@ -1,4 +1,4 @@
-//! The command `run`: what a program comes to on a document.
+//! The commands `run` and `work`: what a program comes to on a document, and on one of any size.
 #![tactic(auto)]
 
 ghost use Rattle.std.specs.Prelude.{◌≡◌, ◌<◌, [], ◌∷◌, length, IfOk};
@@ -23,6 +23,7 @@ use cd_replies::file::read_file;
 use cd_replies::message::{Message, no_text, not_input, refused};
 use cd_replies::reader::read_program;
 use cd_safety::laws::typed_programs_have_main;
+use on_value::run_on;
 use running::reported;
 use std::alloc::{AllocError, Global};
 
@@ -30,9 +31,9 @@ mod input;
 mod on_value;
 mod running;
 mod safety;
+mod workload;
 
-pub use cd_machine::{Outcome, Ran};
-pub use on_value::run_on;
+pub use workload::work;
 
 /// What the program of a file comes to on the value of a document, with so many units: the value
 /// that its `main` gives, an exception that is not caught, an integer beyond 128 bits, or that more

@@ -30,7 +30,7 @@ use std::alloc::{AllocError, Global};
 /// # Errors
 ///
 /// Want of memory.
-pub fn run_on(
+pub(crate) fn run_on(
     alloc: Global,
     program: &Program,
     values: &mut Values,

@@ -1,4 +1,0 @@
-pub mod Workload
-pub mod Queries
-pub mod WorkAnswer
-pub mod Inner
