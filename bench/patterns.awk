@@ -15,6 +15,13 @@ function repeated(text,    i, all) {
     return all
 }
 
+# the sequences of exactly this many numbers 0 to 2, one by one, each after a text
+function of_length(length_left, before,    digit, all) {
+    if (length_left == 0) return " | [" before " ]"
+    for (digit = 0; digit < 3; digit++) all = all of_length(length_left - 1, before " " digit)
+    return all
+}
+
 BEGIN {
     if (what == "elements") {
         printf "%s type All = %s\n", row("type E# = <e#>[Int*]", "\n"), row("E#", "|")
@@ -41,5 +48,10 @@ BEGIN {
         printf "let fun main ([<a>_*] -> Data) [%s] -> 0 | _ -> 0\n", row("x#::<a>_?", " ")
     } else if (what == "optional tags") {
         printf "let fun main ([%s] -> Data) [%s] -> 0\n", row("<a#>_?", " "), row("x#::<a#>_?", " ")
+    } else if (what == "chain") {
+        printf "let fun main (Int -> Int) x%s -> x\n", repeated(" & Int")
+    } else if (what == "listed") {
+        for (i = 1; i <= count; i++) all = all of_length(i, "")
+        printf "let fun main ([%s] -> []%s) x -> x\n", repeated("(0--2)? "), all
     }
 }
