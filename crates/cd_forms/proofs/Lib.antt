@@ -14,3 +14,20 @@ pub mod OneMoreNode
 pub mod PutHolds
 pub mod ConstantsHold
 pub mod ItemsPut
+mod ByNumber
+mod FormulasInLongerGraphs
+mod ListNodes
+mod StatesExplored
+mod JoinedNodes
+mod StateNodes
+mod ItemsOfStates
+mod Marking
+mod SameQuestions
+mod StateFormulasMade
+mod ItemsGathered
+mod VerdictsRead
+mod NilAsked
+mod UnionNodes
+mod JoinsKnown
+mod ListTypes
+mod Outcomes

@@ -5,3 +5,12 @@ pub mod Sorting
 pub mod Members
 pub mod ArrowFormulas
 pub mod Putting
+pub mod Asking
+pub mod Numbered
+pub mod States
+pub mod ItemQuestions
+pub mod Ending
+pub mod StateFormulas
+pub mod Unions
+pub mod ListFormulas
+pub mod Joins

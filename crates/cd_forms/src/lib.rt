@@ -4,13 +4,14 @@
 mod built_in;
 mod constants;
 mod interfaces;
-mod items;
 mod leaves;
 mod letters;
 mod members;
 mod nodes;
+mod of_sequences;
 mod pairs;
 mod put;
+mod put_items;
 mod records;
 mod rows;
 mod sequences;
@@ -22,6 +23,7 @@ mod xmls;
 
 pub use constants::constant;
 pub use interfaces::interface;
+pub use of_sequences::{items, joined, list_of};
 pub use records::record;
 pub use sequences::sequence;
 pub use tuples::tuple;

@@ -11,7 +11,7 @@ ghost use Rattle.cd_empty.specs.Seen.{graph_of};
 ghost use Rattle.cd_forms.specs.Inner.Putting.{whole};
 
 use crate::built_in::empty;
-use crate::items::put_items;
+use crate::put_items::put_items;
 use cd_empty::World;
 use cd_program::expr::Item;
 use cd_sets::node_id::NodeId;

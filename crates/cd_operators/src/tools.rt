@@ -6,9 +6,8 @@ ghost use Rattle.cd_empty.specs.Seen.{graph_of};
 ghost use Rattle.cd_operators.specs.Tools.{AreTools};
 
 use cd_empty::World;
-use cd_forms::{constant, tuple};
+use cd_forms::{constant, list_of, tuple};
 use cd_graph::built_in::{ANY, INT};
-use cd_sequences::list_of;
 use cd_sets::node_id::NodeId;
 use cd_syntax::constant::Constant;
 use std::alloc::{AllocError, Global};
