@@ -19,7 +19,7 @@ use Rattle.cd_grammar.specs.Tables.{tables}
 use Rattle.cd_grammar.proofs.Exact.{safe, full, step_falls}
 use Rattle.cd_grammar.proofs.Terminals.{kind_below}
 use Rattle.cd_grammar.specs.Listed.{listed, automaton, the_grammar}
-use Rattle.cd_parser.specs.PlainParts.{plain_part}
+use Rattle.cd_grammar.specs.Parts.{Part}
 use Rattle.cd_parser.specs.PlainSteps.{accepted}
 use Rattle.cd_parser.specs.Reading.{entries, Comes, IsAccepted, IsRead}
 use Rattle.cd_parser.specs.declared.reading.Reading.{Reading}
@@ -57,34 +57,35 @@ module _ (goal : Goal) (most : ℕ) (tokens : List Token) where
       → map Read (drop index all) ≡ drop (suc index) (entries goal tokens)
   at_token index all same = ap (λ all. map Read (drop index all)) same ∙ sym (drop-map Read index tokens)
 
+module _ {P : Type 0} (plain : P → Part) (goal : Goal) (most : ℕ) (tokens : List Token) where
   pub wrong : (c : Config Entry Placed) (index : ℕ) → Comes goal most tokens c
       → machine.step the_grammar automaton most c ≡ machine.Wrong → c.rest ≡ drop (suc index) (entries goal tokens)
-      → IsRead goal most tokens (Wrong index)
+      → IsRead plain goal most tokens (Wrong index)
   wrong c index comes is place = (
     nowhere,
     at_wrong cduce_grammar by_tables (Core tables) (Sure tables) (First tables) (ranks tables) safe full most
-        (entries goal tokens) c (suc index) (runs c comes) (steps c machine.Wrong is) place,
+        (entries goal tokens) c (suc index) (runs goal most tokens c comes) (steps goal most tokens c machine.Wrong is) place,
   )
 
   pub too_deep : (c : Config Entry Placed) (index : ℕ) → Comes goal most tokens c
       → machine.step the_grammar automaton most c ≡ machine.TooDeep → c.rest ≡ drop (suc index) (entries goal tokens)
-      → IsRead goal most tokens (TooDeep index)
+      → IsRead plain goal most tokens (TooDeep index)
   too_deep c index comes is place = (
     nowhere,
     at_too_deep cduce_grammar by_tables (Core tables) (Sure tables) (First tables) (ranks tables) safe full most
-        (entries goal tokens) c (suc index) (runs c comes) (steps c machine.TooDeep is) place,
+        (entries goal tokens) c (suc index) (runs goal most tokens c comes) (steps goal most tokens c machine.TooDeep is) place,
   )
 
   -- where it accepts, too
-  pub all_read : (c : Config Entry Placed) (index : ℕ) (stack : List (machine.Cell Placed)) (reading : Reading)
+  pub all_read : (c : Config Entry Placed) (index : ℕ) (stack : List (machine.Cell Placed)) (reading : Reading P)
       → Comes goal most tokens c → machine.step the_grammar automaton most c ≡ accepted stack
-      → c.rest ≡ drop (suc index) (entries goal tokens) → IsAccepted index stack reading
-      → IsRead goal most tokens reading
+      → c.rest ≡ drop (suc index) (entries goal tokens) → IsAccepted plain index stack reading
+      → IsRead plain goal most tokens reading
   all_read c index stack (Whole part) comes is place (at, so) = (
     at,
     at_done cduce_grammar by_tables (Core tables) (Sure tables) (First tables) (ranks tables) safe full most
-        (entries goal tokens) c (at, plain_part part) (runs c comes)
-        (steps c (machine.Done (at, plain_part part)) (is ∙ so)),
+        (entries goal tokens) c (at, plain part) (runs goal most tokens c comes)
+        (steps goal most tokens c (machine.Done (at, plain part)) (is ∙ so)),
   )
   all_read c index stack (Wrong other) comes is place (so, same) =
       wrong c other comes (is ∙ so) (place ∙ ap (λ n. drop (suc n) (entries goal tokens)) (sym same))

@@ -25,63 +25,63 @@ as_whole : (most : ℕ) (is : Goal) (tokens : List Token) (part : Placed) → Is
     → Whole cduce_grammar most (entries is tokens) part
 as_whole most is tokens _ (answer.whole part whole) = whole
 
-module _ (is : Goal) (tokens : List Token) (read : Reading) (so : IsRead is 1000 tokens read) where
-  answered : (other : Reading) → read ≡ other → IsAnswer cduce_grammar 1000 (entries is tokens) (plain_answer so.0 other)
-  answered other same = subst (λ one. IsAnswer cduce_grammar 1000 (entries is tokens) (plain_answer so.0 one)) same so.1
+module _ (is : Goal) (tokens : List Token) (read : Reading CodePart) (so : IsRead plain_part is 1000 tokens read) where
+  answered : (other : Reading CodePart) → read ≡ other → IsAnswer cduce_grammar 1000 (entries is tokens) (plain_answer plain_part so.0 other)
+  answered other same = subst (λ one. IsAnswer cduce_grammar 1000 (entries is tokens) (plain_answer plain_part so.0 one)) same so.1
 
   -- the part that all of them write
   pub written : (part : CodePart) → read ≡ reading.Whole part → Writes is 1000 tokens (plain_part part)
   written part same = (so.0, as_whole 1000 is tokens (so.0, plain_part part) (answered (reading.Whole part) same))
 
-module _ (tokens : List Token) (end : ℕ) (read : Reading) where
-  pub type_read : (part : CodePart) → IsRead goal.TypeText 1000 tokens read → read ≡ reading.Whole part → (is : Tree) × (plain_part part ≡ ATree is)
+module _ (tokens : List Token) (end : ℕ) (read : Reading CodePart) where
+  pub type_read : (part : CodePart) → IsRead plain_part goal.TypeText 1000 tokens read → read ≡ reading.Whole part → (is : Tree) × (plain_part part ≡ ATree is)
   type_read part so same = writes_type 1000 tokens (plain_part part) (written goal.TypeText tokens read so part same)
 
-  pub type_of : (part : CodePart) (is : Tree) → IsRead goal.TypeText 1000 tokens read → read ≡ reading.Whole part → ATree is ≡ plain_part part
+  pub type_of : (part : CodePart) (is : Tree) → IsRead plain_part goal.TypeText 1000 tokens read → read ≡ reading.Whole part → ATree is ≡ plain_part part
       → IsTree 1000 tokens is
   type_of part is so same tree = rw tree (written goal.TypeText tokens read so part same)
 
-  pub type_wrong : (index : ℕ) → IsRead goal.TypeText 1000 tokens read → read ≡ reading.Wrong index
+  pub type_wrong : (index : ℕ) → IsRead plain_part goal.TypeText 1000 tokens read → read ≡ reading.Wrong index
       → IsSyntaxFault AType 1000 tokens end (place_of tokens end index)
   type_wrong index so same = type_syntax 1000 tokens end index (answered goal.TypeText tokens read so (reading.Wrong index) same)
 
-  pub type_deep : (index : ℕ) → IsRead goal.TypeText 1000 tokens read → read ≡ reading.TooDeep index
+  pub type_deep : (index : ℕ) → IsRead plain_part goal.TypeText 1000 tokens read → read ≡ reading.TooDeep index
       → IsDepthFault AType 1000 tokens end (place_of tokens end index)
   type_deep index so same = type_depth 1000 tokens end index (answered goal.TypeText tokens read so (reading.TooDeep index) same)
 
-  pub file_read : (part : CodePart) → IsRead goal.TypeFile 1000 tokens read → read ≡ reading.Whole part
+  pub file_read : (part : CodePart) → IsRead plain_part goal.TypeFile 1000 tokens read → read ≡ reading.Whole part
       → (is : Declarations) × (plain_part part ≡ AFile is)
   file_read part so same = writes_file 1000 tokens (plain_part part) (written goal.TypeFile tokens read so part same)
 
-  pub file_of : (part : CodePart) (is : Declarations) → IsRead goal.TypeFile 1000 tokens read → read ≡ reading.Whole part → AFile is ≡ plain_part part
+  pub file_of : (part : CodePart) (is : Declarations) → IsRead plain_part goal.TypeFile 1000 tokens read → read ≡ reading.Whole part → AFile is ≡ plain_part part
       → AreDeclared 1000 tokens is
   file_of part is so same file = rw file (written goal.TypeFile tokens read so part same)
 
-  pub file_wrong : (index : ℕ) → IsRead goal.TypeFile 1000 tokens read → read ≡ reading.Wrong index
+  pub file_wrong : (index : ℕ) → IsRead plain_part goal.TypeFile 1000 tokens read → read ≡ reading.Wrong index
       → IsSyntaxFault SomeDeclarations 1000 tokens end (place_of tokens end index)
   file_wrong index so same = declarations_syntax 1000 tokens end index (answered goal.TypeFile tokens read so (reading.Wrong index) same)
 
-  pub file_deep : (index : ℕ) → IsRead goal.TypeFile 1000 tokens read → read ≡ reading.TooDeep index
+  pub file_deep : (index : ℕ) → IsRead plain_part goal.TypeFile 1000 tokens read → read ≡ reading.TooDeep index
       → IsDepthFault SomeDeclarations 1000 tokens end (place_of tokens end index)
   file_deep index so same = declarations_depth 1000 tokens end index (answered goal.TypeFile tokens read so (reading.TooDeep index) same)
 
-  pub program_read : (part : CodePart) → IsRead goal.ProgramText 1000 tokens read → read ≡ reading.Whole part
+  pub program_read : (part : CodePart) → IsRead plain_part goal.ProgramText 1000 tokens read → read ≡ reading.Whole part
       → (types : List Declaration) × (functions : List FunctionTree) × (plain_part part ≡ APart types functions)
   program_read part so same =
       writes_program 1000 tokens (plain_part part) (written goal.ProgramText tokens read so part same)
 
   pub program_of : (part : CodePart) (types : List Declaration) (is : Program)
-      → IsRead goal.ProgramText 1000 tokens read → read ≡ reading.Whole part → is.types ≡ declarations_of types
+      → IsRead plain_part goal.ProgramText 1000 tokens read → read ≡ reading.Whole part → is.types ≡ declarations_of types
       → APart types is.functions ≡ plain_part part → IsProgram 1000 tokens is
   program_of part types is so same all program =
       (types, all, rw program (written goal.ProgramText tokens read so part same))
 
-  pub program_wrong : (index : ℕ) → IsRead goal.ProgramText 1000 tokens read → read ≡ reading.Wrong index
+  pub program_wrong : (index : ℕ) → IsRead plain_part goal.ProgramText 1000 tokens read → read ≡ reading.Wrong index
       → IsSyntaxFault AProgram 1000 tokens end (place_of tokens end index)
   program_wrong index so same =
       program_syntax 1000 tokens end index (answered goal.ProgramText tokens read so (reading.Wrong index) same)
 
-  pub program_deep : (index : ℕ) → IsRead goal.ProgramText 1000 tokens read → read ≡ reading.TooDeep index
+  pub program_deep : (index : ℕ) → IsRead plain_part goal.ProgramText 1000 tokens read → read ≡ reading.TooDeep index
       → IsDepthFault AProgram 1000 tokens end (place_of tokens end index)
   program_deep index so same =
       program_depth 1000 tokens end index (answered goal.ProgramText tokens read so (reading.TooDeep index) same)

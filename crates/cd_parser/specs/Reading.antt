@@ -9,7 +9,7 @@ use Rattle.cd_lr.specs.Reading.{Answer, IsAnswer}
 use Rattle.cd_grammar.specs.declared.goal.Goal.{Goal}
 use Rattle.cd_grammar.specs.Language.{Entry, To, Read, Placed, cduce_grammar}
 use Rattle.cd_grammar.specs.Listed.{automaton, the_grammar}
-use Rattle.cd_parser.specs.PlainParts.{plain_part}
+use Rattle.cd_grammar.specs.Parts as parts
 use Rattle.cd_parser.specs.PlainSteps.{accepted}
 use Rattle.cd_parser.specs.declared.reading.Reading.{Reading}
 use Rattle.cd_parser.specs.declared.reading.Reading.TheVariants.{Whole, Wrong, TooDeep}
@@ -24,19 +24,23 @@ Comes goal most tokens c =
     (machine.begin the_grammar automaton most (entries goal tokens)) c
 
 -- what all is read as where it is accepted, with this many tokens read
-abbrev pub IsAccepted : (index : ℕ) → List (machine.Cell Placed) → Reading → Type 0
-IsAccepted index stack (Whole part) =
-    (place : Span) × (accepted stack ≡ machine.Done (place, plain_part part))
-IsAccepted index stack (Wrong other) = (accepted stack ≡ machine.Wrong) × (other ≡ index)
-IsAccepted index stack (TooDeep other) = ⊥
+abbrev pub IsAccepted : {P : Type 0} → (P → parts.Part) → (index : ℕ) → List (machine.Cell Placed)
+    → Reading P → Type 0
+IsAccepted plain index stack (Whole part) =
+    (place : Span) × (accepted stack ≡ machine.Done (place, plain part))
+IsAccepted plain index stack (Wrong other) = (accepted stack ≡ machine.Wrong) × (other ≡ index)
+IsAccepted plain index stack (TooDeep other) = ⊥
 
 -- a reading as an answer, where what was read stands at this place
-abbrev pub plain_answer : (place : Span) → Reading → Answer Placed
-plain_answer place (Whole part) = answer.Read (place, plain_part part)
-plain_answer place (Wrong index) = answer.Syntax (suc index)
-plain_answer place (TooDeep index) = answer.TooDeep (suc index)
+abbrev pub plain_answer : {P : Type 0} → (P → parts.Part) → (place : Span) → Reading P
+    → Answer Placed
+plain_answer plain place (Whole part) = answer.Read (place, plain part)
+plain_answer plain place (Wrong index) = answer.Syntax (suc index)
+plain_answer plain place (TooDeep index) = answer.TooDeep (suc index)
 
 -- the reading is what the grammar says of the tokens
-abbrev pub IsRead : Goal → (most : ℕ) → List Token → Reading → Type 0
-IsRead goal most tokens reading =
-    (place : Span) × IsAnswer cduce_grammar most (entries goal tokens) (plain_answer place reading)
+abbrev pub IsRead : {P : Type 0} → (P → parts.Part) → Goal → (most : ℕ) → List Token → Reading P
+    → Type 0
+IsRead plain goal most tokens reading =
+    (place : Span)
+    × IsAnswer cduce_grammar most (entries goal tokens) (plain_answer plain place reading)

@@ -1,9 +1,8 @@
-use crate::part::Part;
 use cd_syntax::tokens::Span;
 
 /// A part that was read.
 #[derive(Drop)]
-pub(crate) struct Cell<'t> {
+pub(crate) struct Cell<P> {
     /// The state of the automaton after it.
     pub(crate) state: u16,
     /// How many levels may open after it.
@@ -13,5 +12,5 @@ pub(crate) struct Cell<'t> {
     /// Where it stands.
     pub(crate) span: Span,
     /// What it is.
-    pub(crate) part: Part<'t>,
+    pub(crate) part: P,
 }

@@ -11,6 +11,7 @@ mod made;
 mod nested;
 mod pairs;
 mod part;
+mod parts;
 mod paths;
 mod popped;
 mod program_taken;

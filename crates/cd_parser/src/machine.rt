@@ -7,13 +7,12 @@ ghost use Rattle.cd_parser.specs.PlainStacks.{plain_stack};
 ghost use Rattle.cd_parser.specs.PlainSteps.{rest_of, plain_state, plain_outcome};
 
 use crate::cell::Cell;
-use crate::part::Part;
+use crate::parts::Parts;
 use crate::stack::{reduce, room_of, state_of};
 use crate::state::State;
 use crate::terminal::terminal_of;
 use cd_grammar::table::{Action, END, action_at};
 use cd_syntax::tokens::Token;
-use cd_tree_actions::part::TreePart;
 use std::alloc::{AllocError, Global};
 
 /// What a step leads to.
@@ -29,15 +28,15 @@ pub(crate) enum Outcome {
     TooDeep,
 }
 
-impl State<'_> {
+impl<'t, P: Parts<'t>> State<'t, P> {
     /// Does the next step.
     ///
     /// # Errors
     ///
     /// Want of memory.
     pub(crate) fn step(&mut self, alloc: Global, most: usize) -> Result<Outcome, AllocError>
-        ensures step { IfOk result (λ outcome. plain_outcome outcome self.new
-            ≡ machine.step the_grammar automaton most (plain_state self.old)) }
+        ensures step { IfOk result (λ outcome. plain_outcome P.plain outcome self.new
+            ≡ machine.step the_grammar automaton most (plain_state P.plain self.old)) }
         ensures text { self.new.tokens.now ≡ self.old.tokens.now }
     {
         match action_at(state_of(&self.stack), self.terminal) {
@@ -52,9 +51,9 @@ impl State<'_> {
     }
 
     fn shift(&mut self, most: usize, opens: u16, to: u16) -> Result<Outcome, AllocError>
-        ensures step { IfOk result (λ outcome. plain_outcome outcome self.new
-            ≡ machine.shift the_grammar automaton most opens to (plain_stack self.old.stack.items)
-            (rest_of self.old)) }
+        ensures step { IfOk result (λ outcome. plain_outcome P.plain outcome self.new
+            ≡ machine.shift the_grammar automaton most opens to
+            (plain_stack P.plain self.old.stack.items) (rest_of self.old)) }
         ensures text { self.new.tokens.now ≡ self.old.tokens.now }
     {
         let Some(token) = self.tokens.get(self.index) else {
@@ -69,7 +68,7 @@ impl State<'_> {
             room,
             nested: 0,
             span: token.span,
-            part: Part::Tree(TreePart::Token(token)),
+            part: P::of_token(token),
         };
         self.stack.push(cell)?;
         self.index += 1;

@@ -12,7 +12,7 @@ const MOST: usize = 2_000;
 /// # Errors
 ///
 /// More than may, which is want of memory.
-pub(crate) fn nested_in(make: Option<Make>, cells: &[Cell<'_>]) -> Result<usize, AllocError> {
+pub(crate) fn nested_in<P>(make: Option<Make>, cells: &[Cell<P>]) -> Result<usize, AllocError> {
     let mut most: usize = 0;
     let mut all: usize = 0;
     for cell in cells {

@@ -2,14 +2,10 @@
 ghost use Rattle.std.specs.Prelude.{◌≡◌, ◌≤◌, [], ◌∷◌, length, IfOk, Some};
 ghost use Rattle.cd_grammar.specs.declared.make.Make.TheVariants as makes;
 ghost use Rattle.cd_grammar.specs.Parts.{Junk};
-ghost use Rattle.cd_parser.specs.PlainParts.{plain_part};
 ghost use Rattle.cd_parser.specs.Popped.{AreLast, IsCut, IsMade};
 
 use crate::cell::Cell;
-use crate::made::{make_of_five, make_of_four, make_of_one, make_of_six};
-use crate::pairs::make_of_two;
-use crate::part::Part;
-use crate::triples::make_of_three;
+use crate::parts::Parts;
 use cd_grammar::make::{Five, Four, Make, One, Six, Three, Two};
 use cd_syntax::tokens::Span;
 use std::alloc::{AllocError, Global};
@@ -19,15 +15,16 @@ use std::alloc::{AllocError, Global};
 /// # Errors
 ///
 /// Want of memory.
-pub(crate) fn of_last<'t>(
+pub(crate) fn of_last<'t, P: Parts<'t>>(
     alloc: Global,
     make: Option<Make>,
     here: Span,
     at: usize,
-    stack: &mut Vec<Cell<'t>>,
-) -> Result<Part<'t>, AllocError>
+    stack: &mut Vec<Cell<P>>,
+) -> Result<P, AllocError>
     requires { at ≤ length stack.old.items }
-    ensures { IfOk result (λ part. IsMade make here at stack.old.items stack.new.items part) }
+    ensures { IfOk result
+        (λ part. IsMade P.plain make here at stack.old.items stack.new.items part) }
 {
     match make {
         Some(Make::One(make)) => one(alloc, make, here, at, stack),
@@ -41,19 +38,19 @@ pub(crate) fn of_last<'t>(
 }
 
 // Nothing of use, in the place of the parts from one on.
-fn cut<'t>(at: usize, stack: &mut Vec<Cell<'t>>) -> Part<'t>
+fn cut<'t, P: Parts<'t>>(at: usize, stack: &mut Vec<Cell<P>>) -> P
     requires { at ≤ length stack.old.items }
     ensures cut { IsCut at stack.old.items stack.new.items }
-    ensures junk { plain_part result ≡ Junk }
+    ensures junk { P.plain result ≡ Junk }
 {
     stack.truncate(at);
-    Part::Junk
+    P::junk()
 }
 
 // The last part.
-fn take_part<'t>(stack: &mut Vec<Cell<'t>>) -> Part<'t>
+fn take_part<'t, P: Parts<'t>>(stack: &mut Vec<Cell<P>>) -> P
     requires { 1 ≤ length stack.old.items }
-    ensures { AreLast stack.old.items stack.new.items (plain_part result ∷ []) }
+    ensures { AreLast P.plain stack.old.items stack.new.items (P.plain result ∷ []) }
 {
     match stack.pop() {
         Some(cell) => cell.part,
@@ -61,53 +58,53 @@ fn take_part<'t>(stack: &mut Vec<Cell<'t>>) -> Part<'t>
     }
 }
 
-fn one<'t>(
+fn one<'t, P: Parts<'t>>(
     alloc: Global,
     make: One,
     here: Span,
     at: usize,
-    stack: &mut Vec<Cell<'t>>,
-) -> Result<Part<'t>, AllocError>
+    stack: &mut Vec<Cell<P>>,
+) -> Result<P, AllocError>
     requires { at ≤ length stack.old.items }
     ensures { IfOk result (λ part.
-        IsMade (Some (makes.One make)) here at stack.old.items stack.new.items part) }
+        IsMade P.plain (Some (makes.One make)) here at stack.old.items stack.new.items part) }
 {
     if stack.len() - at != 1 {
         return Ok(cut(at, stack));
     }
     let a = take_part(stack);
-    make_of_one(alloc, make, here, a)
+    P::make_of_one(alloc, make, here, a)
 }
 
-fn two<'t>(
+fn two<'t, P: Parts<'t>>(
     alloc: Global,
     make: Two,
     here: Span,
     at: usize,
-    stack: &mut Vec<Cell<'t>>,
-) -> Result<Part<'t>, AllocError>
+    stack: &mut Vec<Cell<P>>,
+) -> Result<P, AllocError>
     requires { at ≤ length stack.old.items }
     ensures { IfOk result (λ part.
-        IsMade (Some (makes.Two make)) here at stack.old.items stack.new.items part) }
+        IsMade P.plain (Some (makes.Two make)) here at stack.old.items stack.new.items part) }
 {
     if stack.len() - at != 2 {
         return Ok(cut(at, stack));
     }
     let b = take_part(stack);
     let a = take_part(stack);
-    make_of_two(alloc, make, here, a, b)
+    P::make_of_two(alloc, make, here, a, b)
 }
 
-fn three<'t>(
+fn three<'t, P: Parts<'t>>(
     alloc: Global,
     make: Three,
     here: Span,
     at: usize,
-    stack: &mut Vec<Cell<'t>>,
-) -> Result<Part<'t>, AllocError>
+    stack: &mut Vec<Cell<P>>,
+) -> Result<P, AllocError>
     requires { at ≤ length stack.old.items }
     ensures { IfOk result (λ part.
-        IsMade (Some (makes.Three make)) here at stack.old.items stack.new.items part) }
+        IsMade P.plain (Some (makes.Three make)) here at stack.old.items stack.new.items part) }
 {
     if stack.len() - at != 3 {
         return Ok(cut(at, stack));
@@ -115,19 +112,19 @@ fn three<'t>(
     let c = take_part(stack);
     let b = take_part(stack);
     let a = take_part(stack);
-    make_of_three(alloc, make, here, a, b, c)
+    P::make_of_three(alloc, make, here, a, b, c)
 }
 
-fn four<'t>(
+fn four<'t, P: Parts<'t>>(
     alloc: Global,
     make: Four,
     here: Span,
     at: usize,
-    stack: &mut Vec<Cell<'t>>,
-) -> Result<Part<'t>, AllocError>
+    stack: &mut Vec<Cell<P>>,
+) -> Result<P, AllocError>
     requires { at ≤ length stack.old.items }
     ensures { IfOk result (λ part.
-        IsMade (Some (makes.Four make)) here at stack.old.items stack.new.items part) }
+        IsMade P.plain (Some (makes.Four make)) here at stack.old.items stack.new.items part) }
 {
     if stack.len() - at != 4 {
         return Ok(cut(at, stack));
@@ -136,19 +133,19 @@ fn four<'t>(
     let c = take_part(stack);
     let b = take_part(stack);
     let a = take_part(stack);
-    make_of_four(alloc, make, here, a, b, c, d)
+    P::make_of_four(alloc, make, here, a, b, c, d)
 }
 
-fn five<'t>(
+fn five<'t, P: Parts<'t>>(
     alloc: Global,
     make: Five,
     here: Span,
     at: usize,
-    stack: &mut Vec<Cell<'t>>,
-) -> Result<Part<'t>, AllocError>
+    stack: &mut Vec<Cell<P>>,
+) -> Result<P, AllocError>
     requires { at ≤ length stack.old.items }
     ensures { IfOk result (λ part.
-        IsMade (Some (makes.Five make)) here at stack.old.items stack.new.items part) }
+        IsMade P.plain (Some (makes.Five make)) here at stack.old.items stack.new.items part) }
 {
     if stack.len() - at != 5 {
         return Ok(cut(at, stack));
@@ -158,19 +155,19 @@ fn five<'t>(
     let c = take_part(stack);
     let b = take_part(stack);
     let a = take_part(stack);
-    make_of_five(alloc, make, here, (a, b, c, d, e))
+    P::make_of_five(alloc, make, here, (a, b, c, d, e))
 }
 
-fn six<'t>(
+fn six<'t, P: Parts<'t>>(
     alloc: Global,
     make: Six,
     here: Span,
     at: usize,
-    stack: &mut Vec<Cell<'t>>,
-) -> Result<Part<'t>, AllocError>
+    stack: &mut Vec<Cell<P>>,
+) -> Result<P, AllocError>
     requires { at ≤ length stack.old.items }
     ensures { IfOk result (λ part.
-        IsMade (Some (makes.Six make)) here at stack.old.items stack.new.items part) }
+        IsMade P.plain (Some (makes.Six make)) here at stack.old.items stack.new.items part) }
 {
     if stack.len() - at != 6 {
         return Ok(cut(at, stack));
@@ -181,5 +178,5 @@ fn six<'t>(
     let c = take_part(stack);
     let b = take_part(stack);
     let a = take_part(stack);
-    make_of_six(alloc, make, here, (a, b, c, d, e, f))
+    P::make_of_six(alloc, make, here, (a, b, c, d, e, f))
 }

@@ -9,7 +9,7 @@ ghost use Rattle.cd_parser.specs.Reading.{Comes, IsAccepted, IsRead};
 
 use crate::cell::Cell;
 use crate::machine::{Outcome, terminal_ahead};
-use crate::part::Part;
+use crate::parts::Parts;
 use crate::reading::Reading;
 use crate::state::State;
 use crate::terminal::terminal_of_goal;
@@ -23,13 +23,13 @@ use std::alloc::{AllocError, Global};
 /// # Errors
 ///
 /// Want of memory.
-pub(crate) fn read<'t>(
+pub(crate) fn read<'t, P: Parts<'t>>(
     alloc: Global,
     goal: Goal,
     tokens: &'t [Token],
     most: usize,
-) -> Result<Reading<'t>, AllocError>
-    ensures { IfOk result (λ reading. IsRead goal most tokens.entry.now reading) }
+) -> Result<Reading<P>, AllocError>
+    ensures { IfOk result (λ reading. IsRead P.plain goal most tokens.entry.now reading) }
 {
     let mut state = start(alloc, goal, tokens, most)?;
     loop {
@@ -44,8 +44,8 @@ pub(crate) fn read<'t>(
 }
 
 // What was read, which is one part.
-fn accepted(index: usize, mut stack: Vec<Cell<'_>>) -> Reading<'_>
-    ensures { IsAccepted index (plain_stack stack.entry.items) result }
+fn accepted<'t, P: Parts<'t>>(index: usize, mut stack: Vec<Cell<P>>) -> Reading<P>
+    ensures { IsAccepted P.plain index (plain_stack P.plain stack.items) result }
 {
     let Some(cell) = stack.pop() else {
         return Reading::Wrong(index);
@@ -57,13 +57,14 @@ fn accepted(index: usize, mut stack: Vec<Cell<'_>>) -> Reading<'_>
 }
 
 // Where the automaton stands once it has taken what the text is to be, which opens no level.
-fn start<'t>(
+fn start<'t, P: Parts<'t>>(
     alloc: Global,
     goal: Goal,
     tokens: &'t [Token],
     most: usize,
-) -> Result<State<'t>, AllocError>
-    ensures comes { IfOk result (λ state. Comes goal most tokens.entry.now (plain_state state)) }
+) -> Result<State<'t, P>, AllocError>
+    ensures comes { IfOk result
+        (λ state. Comes goal most tokens.entry.now (plain_state P.plain state)) }
     ensures text { IfOk result (λ state. state.tokens.now ≡ tokens.entry.now) }
 {
     let cell = Cell {
@@ -71,7 +72,7 @@ fn start<'t>(
         room: most,
         nested: 0,
         span: Span { from: 0, to: 0 },
-        part: Part::Junk,
+        part: P::junk(),
     };
     let mut stack = Vec::new(alloc);
     stack.push(cell)?;

@@ -1,72 +1,25 @@
-//! What rules make of three parts.
+//! What rules of programs make of three parts of which one or two are tokens.
 ghost use Rattle.std.specs.Prelude.{◌≡◌, IfOk};
-ghost use Rattle.cd_grammar.specs.Makes as makes;
 ghost use Rattle.cd_parser.specs.PlainParts.{plain_part};
 ghost use Rattle.cd_parser.specs.OfPrograms.{of_middle, of_ends};
 
 use crate::exprs::{
     first_operand, first_without, next_expr, next_operand, next_without, tuple_expr, two_exprs,
 };
-use crate::functions::{branch, next_signatures, signature, unnamed_function};
+use crate::functions::{branch, next_signatures, signature};
 use crate::part::Part;
-use crate::paths::{before_attribute_step, before_child_step, before_field_step};
 use crate::selects::source;
-use crate::tree_made::make_tree_of_three;
 use crate::values::{expr_field, next_expr_fields, record_expr, sequence_expr};
 use cd_grammar::make::Three;
 use cd_syntax::tokens::Span;
 use std::alloc::{AllocError, Global};
 
-/// What a rule makes of three parts.
+/// What a rule makes of the middle one, where the first and the last are tokens.
 ///
 /// # Errors
 ///
 /// Want of memory.
-pub(crate) fn make_of_three<'t>(
-    alloc: Global,
-    make: Three,
-    here: Span,
-    a: Part<'t>,
-    b: Part<'t>,
-    c: Part<'t>,
-) -> Result<Part<'t>, AllocError>
-    ensures { IfOk result (λ made. plain_part made ≡ makes.made_of_three make here
-        (plain_part a.entry) (plain_part b.entry) (plain_part c.entry)) }
-{
-    match make {
-        Three::UnnamedFunction => unnamed_function(alloc, here, a, b, c),
-        Three::BeforeChildStep => before_child_step(alloc, a, b, c),
-        Three::BeforeAttributeStep => before_attribute_step(alloc, a, b, c),
-        Three::BeforeFieldStep => {
-            drop(a);
-            before_field_step(alloc, b, c)
-        }
-        Three::Between | Three::TupleExpr | Three::SequenceExpr | Three::RecordExpr => {
-            drop(a);
-            drop(c);
-            of_middle(alloc, make, here, b)
-        }
-        Three::Signature
-        | Three::SeparateSignatures
-        | Three::Branch
-        | Three::FirstOperand(_)
-        | Three::NextOperand(_)
-        | Three::FirstWithout
-        | Three::NextWithout
-        | Three::Source
-        | Three::TwoExprs
-        | Three::NextExpr
-        | Three::ExprField
-        | Three::SeparateExprFields => {
-            drop(b);
-            of_ends(alloc, make, here, a, c)
-        }
-        _ => make_tree_of_three(alloc, make, here, a, b, c),
-    }
-}
-
-// Of three parts of a program of which the first and the last are tokens.
-fn of_middle<'t>(
+pub(crate) fn of_middle<'t>(
     alloc: Global,
     make: Three,
     here: Span,
@@ -86,8 +39,12 @@ fn of_middle<'t>(
     }
 }
 
-// Of three parts of a program of which the middle one is a token.
-fn of_ends<'t>(
+/// What a rule makes of the first and the last, where the middle one is a token.
+///
+/// # Errors
+///
+/// Want of memory.
+pub(crate) fn of_ends<'t>(
     alloc: Global,
     make: Three,
     here: Span,

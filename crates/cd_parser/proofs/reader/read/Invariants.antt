@@ -8,8 +8,8 @@ use Rattle.cd_parser.proofs.reader.read.Given as goal
 
 -- the automaton comes to this state
 abbrev pub invariant-loop-state : goal.invariant-loop-state
-invariant-loop-state l =
-    Comes l.fn.goal l.fn.most l.fn.tokens (plain_state l.state) × (l.state.tokens.now ≡ l.fn.tokens)
+invariant-loop-state g l =
+    Comes l.fn.goal l.fn.most l.fn.tokens (plain_state g.P.Parts.plain l.state) × (l.state.tokens.now ≡ l.fn.tokens)
 
 abbrev pub decreases-loop-state : goal.decreases-loop-state
-decreases-loop-state l = left_over (state_weight tables) tables.top (plain_state l.state)
+decreases-loop-state g l = left_over (state_weight tables) tables.top (plain_state g.P.Parts.plain l.state)
