@@ -39,15 +39,15 @@ both_named graph table self id needed reported misfit fits = fits.1.named
 quotient_named : (graph : Graph) (table : List Thing) (self id : NodeId) (misfit : Misfit)
     → IsMisfitOfQuotient graph table self id (stop.Misfit misfit) → Names table misfit.element
 quotient_named graph table self id misfit (inl fits) = fits.1.named
-quotient_named graph table self id misfit (inr fits) = fits.2.named
+quotient_named graph table self id misfit (inr fits) = fits.1.2.named
 
 misfit_named : (graph : Graph) (table : List Thing) (is : Op) (self id : NodeId) (misfit : Misfit)
     → IsMisfit graph table is self id (stop.Misfit misfit) → Names table misfit.element
 misfit_named graph table op.Plus self id misfit fits = fits.1.1.named
 misfit_named graph table op.Div self id misfit fits = quotient_named graph table self id misfit fits
 misfit_named graph table op.Mod self id misfit fits = quotient_named graph table self id misfit fits
-misfit_named graph table op.And self id misfit fits = fits.1.named
-misfit_named graph table op.Or self id misfit fits = fits.1.named
+misfit_named graph table op.And self id misfit fits = absurd fits
+misfit_named graph table op.Or self id misfit fits = absurd fits
 misfit_named graph table op.Equal self id misfit fits = fits.1.named
 misfit_named graph table op.Unequal self id misfit fits = fits.1.named
 misfit_named graph table op.Less self id misfit fits = fits.1.named
@@ -116,13 +116,17 @@ module _ (scope : Scope) (old : Graph) (nodes : Nodes) (graph : Graph) (table : 
     quotient_breaks : (misfit : Misfit) → IsMisfitOfQuotient graph table self id (stop.Misfit misfit)
         → QuotientFault scope types first second (place_at misfit.side at e_at) misfit.rule (element_at table misfit.element)
     quotient_breaks misfit (inl fits) = inl (both_break (BuiltIn INT) rule.Operand misfit fits)
-    quotient_breaks misfit (inr fits) = inr (missing_breaks second id known_second NotZero rule.Divisor misfit.element fits.2 misfit.rule fits.1
-        (place_at misfit.side at e_at) (ap (λ which. place_at which at e_at) fits.0 ∙ e_stands) types of)
+    quotient_breaks misfit (inr fits) = inr (
+      (_, (known_first types of).is_type, (known_first types of).has, fits.0.0),
+      (_, (known_second types of).is_type, (known_second types of).has, fits.0.1),
+      missing_breaks second id known_second NotZero rule.Divisor misfit.element fits.1.2 misfit.rule fits.1.1
+          (place_at misfit.side at e_at) (ap (λ which. place_at which at e_at) fits.1.0 ∙ e_stands) types of,
+    )
 
     pub operator_breaks : (is : Op) → IsMet is → (misfit : Misfit) → IsMisfit graph table is self id (stop.Misfit misfit)
         → OperatorFault scope types is first second (place_at misfit.side at e_at) misfit.rule (element_at table misfit.element)
-    operator_breaks op.And met misfit fits = absurd met
-    operator_breaks op.Or met misfit fits = absurd met
+    operator_breaks op.And met misfit fits = absurd fits
+    operator_breaks op.Or met misfit fits = absurd fits
     operator_breaks op.Equal met misfit fits = both_break (BuiltIn DATA) rule.Comparison misfit fits
     operator_breaks op.Unequal met misfit fits = both_break (BuiltIn DATA) rule.Comparison misfit fits
     operator_breaks op.Less met misfit fits = both_break (BuiltIn INT) rule.Operand misfit fits

@@ -146,7 +146,7 @@ module _ (scope : Scope) where
       → AreIntegers (In self) (In s) → (In s (Integer (pos 0)) → ⊥) → ⊥
   quotient_none types first second at reported d (inl fault) self s is has more all integers divides =
       both_none types first second (BuiltIn INT) rule.Operand at reported d fault self s is has integers.0 more all integers.1
-  quotient_none types first second at reported d (inr fault) self s is has more all integers divides =
+  quotient_none types first second at reported d (inr (one, other, fault)) self s is has more all integers divides =
       fault.1.outside (λ is_zero. divides (subst (In s) is_zero (fault.1.least s more all)))
 
   operator_fails : (types : Types) (is : Op) (first second : Expr) (at : ℕ) (reported : Rule) (d : Thing)

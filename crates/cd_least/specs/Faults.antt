@@ -86,11 +86,12 @@ module _ (scope : Scope) where
       ⊎ (HasWithin types first (BuiltIn INT)
       × Breaks types second (BuiltIn INT) rule.Operand at reported d))
 
-  -- integers are needed, and a divisor that is not 0
+  -- integers are needed, and where both operands are integers a divisor that is not 0
   abbrev pub QuotientFault : Types → (first second : Expr) → (at : ℕ) → Rule → Thing → Type 0
   QuotientFault types first second at reported d =
       BreaksOne types first second (BuiltIn INT) rule.Operand at reported d
-      ⊎ Breaks types second NotZero rule.Divisor at reported d
+      ⊎ (HasWithin types first (BuiltIn INT) × HasWithin types second (BuiltIn INT)
+      × Breaks types second NotZero rule.Divisor at reported d)
 
   abbrev pub OperatorFault : Types → Op → (first second : Expr) → (at : ℕ) → Rule → Thing → Type 0
   OperatorFault types op.And first second = Breaks types first (BuiltIn BOOL) rule.Condition

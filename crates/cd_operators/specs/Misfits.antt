@@ -12,7 +12,7 @@ use Rattle.cd_program.specs.declared.operator.BuiltIn.{BuiltIn as Word}
 use Rattle.cd_program.specs.declared.operator.BuiltIn.TheVariants as word
 use Rattle.cd_meaning.specs.Sets.{Set, ◌⊆◌, elements_of}
 use Rattle.cd_meaning.specs.Sequences.{IsSequence, IsListOf}
-use Rattle.cd_typing.specs.Operators.{IsNumbers}
+use Rattle.cd_typing.specs.Operators.{AreIntegers, IsNumbers}
 use Rattle.cd_typing.specs.Typ.{BuiltIn}
 use Rattle.cd_operators.specs.declared.misfit.Side.{Side}
 use Rattle.cd_operators.specs.declared.misfit.Side.TheVariants as side
@@ -78,16 +78,24 @@ IsMisfitOfPlus graph table first second (stop.Misfit misfit) =
     × IsMisfitOfBoth graph table first second (BuiltIn INT) rule.Operand (stop.Misfit misfit)
 IsMisfitOfPlus graph table first second stop.Memory = Unit {0}
 
--- of `div` and `mod`: integers are needed, and a divisor that is not 0
+-- of `div` and `mod`: integers are needed, and where both are integers a divisor that is not 0
 abbrev pub IsMisfitOfQuotient : Graph → List Thing → (first second : NodeId) → Stop → Type 0
 IsMisfitOfQuotient graph table first second (stop.Misfit misfit) =
     IsMisfitOfBoth graph table first second (BuiltIn INT) rule.Operand (stop.Misfit misfit)
-    ⊎ IsMisfitOf graph table side.Second second (λ d. IsZero d → ⊥) rule.Divisor
-    (stop.Misfit misfit)
+    ⊎ (AreIntegers (elements_of graph first) (elements_of graph second)
+    × IsMisfitOf graph table side.Second second (λ d. IsZero d → ⊥) rule.Divisor
+    (stop.Misfit misfit))
 IsMisfitOfQuotient graph table first second stop.Memory = Unit {0}
+
+-- of `&&` and `||`, whose left operand is tested before: nothing is refused
+abbrev pub IsNoMisfit : Stop → Type 0
+IsNoMisfit (stop.Misfit misfit) = ⊥
+IsNoMisfit stop.Memory = Unit {0}
 
 -- of each operator, by its rule
 abbrev pub IsMisfit : Graph → List Thing → Op → (first second : NodeId) → Stop → Type 0
+IsMisfit graph table op.And first second = IsNoMisfit
+IsMisfit graph table op.Or first second = IsNoMisfit
 IsMisfit graph table op.Equal first second =
     IsMisfitOfBoth graph table first second (BuiltIn DATA) rule.Comparison
 IsMisfit graph table op.Unequal first second =

@@ -53,8 +53,11 @@ returns-in-Inhabited-clause-misfit c =
     (question (c.args.second ∷ tools.zero ∷ []) []) (Inhabited c.in-Inhabited.element))
     c.in_ok-integers.ensures.graph (rw c.in-Inhabited.is at c.in_ok-zeros.ensures.exact) in
     inr (
-      refl,
-      refl,
-      zero_found (graph_of c.args.world.now) tools c.requires.tools c.args.second
-          (table_of c.zeros.new.world) c.in-Inhabited.element one,
+      c.in_ok-integers.ensures.within,
+      (
+        refl,
+        refl,
+        zero_found (graph_of c.args.world.now) tools c.requires.tools c.args.second
+            (table_of c.zeros.new.world) c.in-Inhabited.element one,
+      ),
     )
