@@ -12,7 +12,7 @@ mod FunctionPlaces
 mod PatternStarts
 mod DifferentPlaces
 pub mod PlacesOfPrograms
-mod TokensInRange
+pub mod TokensInRange
 mod PartsInRange
 mod ExprsInRange
 mod QueriesInRange

@@ -1,0 +1,2 @@
+pub mod HasNode
+pub mod ConstantsInRange

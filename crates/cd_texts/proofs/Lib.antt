@@ -1,0 +1,9 @@
+pub mod PartsInRange
+pub mod TreesInRange
+pub mod ExprsInRange
+pub mod QueriesInRange
+pub mod OnesInRange
+pub mod TwosInRange
+pub mod ThreesInRange
+pub mod MakesInRange
+pub mod ProgramsInRange
