@@ -4,6 +4,7 @@ ghost use Rattle.cd_syntax.specs.PlainTree.{plain_declarations};
 ghost use Rattle.cd_syntax.specs.WellMade.{AreWellMadeDeclarations};
 ghost use Rattle.cd_model.specs.Formula.{IsGraph};
 ghost use Rattle.cd_resolve.specs.Named.{AreNamed, plain_names, declared_by};
+ghost use Rattle.cd_empty.specs.Growth.{Grows};
 ghost use Rattle.cd_empty.specs.Seen.{graph_of};
 ghost use Rattle.cd_replies.specs.Naming.{AreNamedWell, RefusesNames};
 ghost use Rattle.cd_replies.specs.Refusals.{IfRefused};
@@ -32,6 +33,7 @@ pub fn declare<'t>(
     ensures stand { IfOk result (λ names. AreNamed (graph_of world.new) (plain_names names)) }
     ensures refused { IfErr result
         (λ error. IfRefused error (RefusesNames (plain_declarations declared.now))) }
+    ensures grows { Grows world.old world.new }
 {
     let batch = name_declarations(alloc, world.graph().len(), declared)?;
     world.extend(batch.formulas)?;
