@@ -32,9 +32,8 @@ module _ (base : Base) (locals : Nodes) where
   pub after_same : (one two three : Graph) → IsAfter base locals one two → three ≡ two → IsAfter base locals one three
   after_same one two three first same = subst (λ graph. IsAfter base locals one graph) (sym same) first
 
-  -- a world that grew twice, and a graph that stayed then
-  pub after_growing : (one two three : Seen) → IsReady base (graph_of one) locals → Grows one two → IsGraph (graph_of two) → Grows two three
-      → IsGraph (graph_of three) → (last : Graph) → last ≡ graph_of three → IsAfter base locals (graph_of one) last
-  after_growing one two three ready first first_sound second second_sound last same = after_same (graph_of one) (graph_of three) last
-      (after_grown (graph_of one) two three (after_grown (graph_of one) one two (after_none (graph_of one) ready) first first_sound)
-      second second_sound) same
+  -- a world that grew, and a graph that stayed then
+  pub after_step : (one two : Seen) → IsReady base (graph_of one) locals → Grows one two → IsGraph (graph_of two) → (last : Graph)
+      → last ≡ graph_of two → IsAfter base locals (graph_of one) last
+  after_step one two ready grows sound last same = after_same (graph_of one) (graph_of two) last
+      (after_grown (graph_of one) one two (after_none (graph_of one) ready) grows sound) same

@@ -19,8 +19,6 @@ use Rattle.cd_coming.specs.CapturedTypes.{types_of}
 use Rattle.cd_coming.specs.Coming.{NothingComes, SomethingComes}
 use Rattle.cd_sites.specs.declared.site.Site.{Site}
 use Rattle.cd_sites.specs.TakenElements.{IsTakenFrom, TakesNone}
-use Rattle.cd_empty.specs.Growth.{Grows}
-use Rattle.cd_empty.specs.Seen.{Seen, graph_of}
 use Rattle.cd_check.specs.declared.base.Base.{Base}
 use Rattle.cd_check.specs.declared.bodies.Limit.{Limit}
 use Rattle.cd_check.specs.declared.sites.Sited.{Sited}
@@ -30,12 +28,12 @@ use Rattle.cd_check.specs.Inner.Environment.{Nodes, AreNodes, AreNodesOf, Gives,
 use Rattle.cd_check.specs.Inner.Giving.{ExprGives}
 use Rattle.cd_check.specs.Inner.Limits.{IsLimit, AreWithin, IsOneWithin}
 use Rattle.cd_check.specs.Inner.GoingOn.{listed}
-use Rattle.cd_check.specs.Inner.Ready.{IsReady, IsAfter, declarations_of, names_seen, scope_of, seen_by}
+use Rattle.cd_check.specs.Inner.Ready.{IsReady, IsAfter, program_of, names_seen, scope_of, seen_by}
 use Rattle.cd_check.specs.Inner.SoundNames.{IsSound}
 use Rattle.cd_check.proofs.Divided.{left_untaken}
 use Rattle.cd_check.proofs.OwnNames.{body_sound, names_in}
 use Rattle.cd_check.proofs.OwnTypes.{body_gives}
-use Rattle.cd_check.proofs.ReadyLater.{ready_later, later_of}
+use Rattle.cd_check.proofs.ReadyLater.{ready_later}
 
 -- variables before others
 pub seen_all : (base : Base) (locals own all : Nodes) → all ≡ own ++ locals → seen_by base all ≡ own ++ seen_by base locals
@@ -53,8 +51,10 @@ ready_with base graph locals all are ready = record {
   begins = ready.begins;
   sound = ready.sound;
   nodes = are;
-  named = ready.named;
-  names_sound = ready.names_sound;
+  resolved = ready.resolved;
+  patterns = ready.patterns;
+  sited = ready.sited;
+  promised = ready.promised;
   tools = ready.tools;
   yes = ready.yes;
   no = ready.no;
@@ -84,10 +84,10 @@ module _ (base : Base) (locals own all : Nodes) (same : all ≡ own ++ locals) (
     (sound : IsSited old (scope_of base) sited) (matched : NodeId) (middle : Graph)
     (hold : HoldCaptured (scope_of base) (types_of middle own) [] (sited_pattern sited) (elements_of old matched)) (body : Expr) where
   pub body_is_sound : (e : Thing) → IsTakenFrom (scope_of base) (sited_pattern sited) (elements_of old matched) e
-      → IsSound (declarations_of base) (names_of (sited_pattern sited) ++ names_seen base locals) body
-      → IsSound (declarations_of base) (names_seen base all) body
-  body_is_sound e taken named = subst (λ nodes. IsSound (declarations_of base) (names_in nodes) body) (sym (seen_all base locals own all same))
-      (body_sound (declarations_of base) middle (scope_of base) (sited_pattern sited) (elements_of old matched) own (seen_by base locals)
+      → IsSound (program_of base) (names_of (sited_pattern sited) ++ names_seen base locals) body
+      → IsSound (program_of base) (names_seen base all) body
+  body_is_sound e taken named = subst (λ nodes. IsSound (program_of base) (names_in nodes) body) (sym (seen_all base locals own all same))
+      (body_sound (program_of base) middle (scope_of base) (sited_pattern sited) (elements_of old matched) own (seen_by base locals)
       sound.bound hold e taken.0 taken.1 body named)
 
   pub one_gives : IsReady base old locals → IsLater old middle → AreNodesOf middle own → (new : Graph) (id : NodeId)
@@ -151,9 +151,3 @@ pub something_comes : (graph : Graph) (matched : NodeId) (site : Site) (new : Gr
     → SomethingComes graph matched site new own.items
 something_comes graph matched site new found own comes is =
     subst (λ (one : Option (Vec (Name × NodeId) Global)). Coming graph matched site new one) is comes
-
--- two steps of a world that grows
-pub later_two : (one two three : Seen) → Grows one two → IsGraph (graph_of two) → Grows two three → IsGraph (graph_of three)
-    → IsLater (graph_of one) (graph_of three)
-later_two one two three first first_sound second second_sound = later_still (graph_of one) (graph_of two) (graph_of three)
-    (later_of one two first first_sound) (later_of two three second second_sound)

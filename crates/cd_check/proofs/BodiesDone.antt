@@ -25,7 +25,7 @@ use Rattle.cd_check.specs.Inner.Environment.{Nodes}
 use Rattle.cd_check.specs.Inner.Giving.{BodiesGive}
 use Rattle.cd_check.specs.Inner.GoingOn.{listed}
 use Rattle.cd_check.specs.Inner.Limits.{IsLimit, AreWithin, IsOneWithin}
-use Rattle.cd_check.specs.Inner.Ready.{IsReady, IsAfter, declarations_of, names_seen, scope_of, seen_by}
+use Rattle.cd_check.specs.Inner.Ready.{IsReady, IsAfter, program_of, names_seen, scope_of, seen_by}
 use Rattle.cd_check.specs.Inner.SoundNames.{IsSound, BranchesAreSound}
 use Rattle.cd_check.proofs.After.{after_none, after_both}
 use Rattle.cd_check.proofs.BodiesChecked.{limit_later, within_later, one_more_within, none_within}
@@ -141,12 +141,12 @@ module _ (base : Base) (locals : Nodes) (old : Graph) (ready : IsReady base old 
       pub matched_below : coming.matched.0 < length graph
       matched_below = subst (λ (id : NodeId). id.0 < length graph) (sym here.0) here.1
 
-      pub is_sound : branches_of (map plain_branch items) ≡ branches → BranchesAreSound (declarations_of base) (names_seen base locals) branches
-          → IsSound (declarations_of base) (names_of (coming_pattern coming) ++ names_seen base locals) (plain_branch item).body
-      is_sound are sound = subst (λ (pattern : Tree). IsSound (declarations_of base) (names_of pattern ++ names_seen base locals)
+      pub is_sound : branches_of (map plain_branch items) ≡ branches → BranchesAreSound (program_of base) (names_seen base locals) branches
+          → IsSound (program_of base) (names_of (coming_pattern coming) ++ names_seen base locals) (plain_branch item).body
+      is_sound are sound = subst (λ (pattern : Tree). IsSound (program_of base) (names_of pattern ++ names_seen base locals)
           (plain_branch item).body) (sym same_here)
-          (body_at (declarations_of base) (names_seen base locals) items number item at below
-          (subst (λ all. BranchesAreSound (declarations_of base) (names_seen base locals) all) (sym are) sound))
+          (body_at (program_of base) (names_seen base locals) items number item at below
+          (subst (λ all. BranchesAreSound (program_of base) (names_seen base locals) all) (sym are) sound))
 
       pub one_done : IsLimit old limit → (new : Graph) (found : Option NodeId) → IsAfter base locals graph new
           → BodyGives (scope_of base) graph (seen_by base locals) new (elements_of graph coming.matched) (coming_pattern coming)

@@ -88,12 +88,11 @@ pub bodies_from : (base : Base) (locals : Nodes) (old : Graph) (branches : Branc
 bodies_from base locals old branches matched last results gives new id each types of = gives.have_types types of (typ new id) each
 
 -- nothing of what is matched passes a pattern by
-pub none_passes : (first second third : Graph) → IsLater first second → IsGraph first → (matched : NodeId) → matched.0 < length first
-    → (scope : Scope) (pattern : Tree) (left : NodeId) → left_of scope pattern (elements_of second matched) ⊆ elements_of third left
-    → ((e : Thing) → IsElement e → elements_of third left e → ⊥)
+pub none_passes : (first second : Graph) (matched : NodeId) (scope : Scope) (pattern : Tree) (left : NodeId)
+    → left_of scope pattern (elements_of first matched) ⊆ elements_of second left
+    → ((e : Thing) → IsElement e → elements_of second left e → ⊥)
     → (e : Thing) → IsElement e → elements_of first matched e → WrittenTakes scope pattern e None → ⊥
-none_passes first second third is sound matched below scope pattern left all_left none e element inside fails =
-    none e element (all_left e element (later_in first second is sound matched below e element inside, fails))
+none_passes first second matched scope pattern left all_left none e element inside fails = none e element (all_left e element (inside, fails))
 
 -- items of a node of sequences
 pub lists_in : (same graph later : Graph) → same ≡ graph → (list sequences item : NodeId) → elements_of graph list ⊆ elements_of graph sequences

@@ -3,28 +3,26 @@ use Rattle.std.proofs.Common.{◌≡◌, ◌<◌, ℕ, List, length, get_or, sym
 use Rattle.cd_sets.specs.declared.node_id.NodeId.{NodeId}
 use Rattle.cd_model.specs.Formula.{Graph}
 use Rattle.cd_model.specs.Thing.{Thing}
-use Rattle.cd_program.specs.Expr.{FunctionTree, Function}
+use Rattle.cd_program.specs.Expr.{FunctionTree}
 use Rattle.cd_program.specs.PlainExpr.{plain_branches, plain_function, plain_interface}
 use Rattle.cd_program.specs.declared.expr.FunctionTree.{FunctionTree as CodeFunction}
 use Rattle.cd_program.specs.declared.expr.ExprKind.TheViews.{out-FunctionTree}
 use Rattle.cd_typing.specs.Later.{IsLater}
-use Rattle.cd_least.specs.Faults.{FunctionFault}
+use Rattle.cd_resolved.specs.declared.function_nodes.FunctionNodes.{FunctionNodes}
 use Rattle.cd_check.specs.declared.base.Base.{Base}
 use Rattle.cd_check.specs.declared.fault.CheckError.{CheckError}
-use Rattle.cd_check.specs.declared.interface.Promise.{Promise}
 use Rattle.cd_check.specs.Inner.Environment.{Nodes, with_node}
-use Rattle.cd_check.specs.Inner.Failing.{ArrowFails, PromiseFails, FormFails}
+use Rattle.cd_check.specs.Inner.Failing.{ArrowFails, PromiseFails}
 use Rattle.cd_check.specs.Inner.Known.{Fails}
 use Rattle.cd_check.specs.Inner.Promises.{HasPromise}
 use Rattle.cd_check.specs.Inner.Ready.{IsReady, scope_of, seen_by}
 use Rattle.cd_check.proofs.FunctionFaults.{ArrowFault, arrow_at_fault}
 use Rattle.cd_check.proofs.FunctionsKept.{seen_named}
-use Rattle.cd_check.proofs.KnownTypes.{fails_earlier}
 use Rattle.cd_check.proofs.ProgramViews.{function_is}
 
 -- of its branches for one of its arrows, where they see its own name
 pub promise_failed : (base : Base) (old later : Graph) → IsLater old later → (locals : Nodes) → IsReady base old locals → (inner : Nodes)
-    → (one : CodeFunction) (promise : Promise) → inner ≡ with_node (out-FunctionTree one).name promise.whole locals
+    → (one : CodeFunction) (promise : FunctionNodes) → inner ≡ with_node (out-FunctionTree one).name promise.whole locals
     → HasPromise (scope_of base) old (plain_function one) promise.arrows.items promise.whole
     → (items : List (NodeId × NodeId)) → items ≡ promise.arrows.items → (index : ℕ) (arrow : NodeId × NodeId)
     → arrow ≡ get_or items index arrow → index < length items → (table : List Thing) (error : CheckError)
@@ -40,10 +38,3 @@ promise_failed base old later is locals ready inner one promise same has items a
     index arrow at more error
     (subst (λ (nodes : Nodes). Fails later nodes table (ArrowFault (scope_of base) later f.at (plain_branches f.branches) arrow) error)
     (seen_named base locals f.name promise.whole inner same) fails))
-
--- as an expression, where its interface is read from a first graph on
-pub function_failed : (base : Base) (old first : Graph) → IsLater old first → (locals : Nodes) → IsReady base old locals → (f : FunctionTree)
-    → (table : List Thing) (error : CheckError) → PromiseFails base first locals table f error → FormFails base old locals table (Function f) error
-function_failed base old first is locals ready f table error fails here = fails_earlier old first is ready.sound (seen_by base locals) ready.nodes
-    table (λ types. FunctionFault (scope_of base) types f) (λ types. FunctionFault (scope_of base) types f)
-    (λ types of at reported d fault. fault) error fails

@@ -2,12 +2,11 @@
 use Rattle.std.proofs.Common.{◌≡◌, ◌∙◌, ◌<◌, ◌+◌, ℕ, zero, suc, arith, ap, refl, sym, subst, List, [], ◌∷◌, length, drop, get_or, Option, Some, None}
 use Rattle.cd_sets.specs.declared.node_id.NodeId.{NodeId}
 use Rattle.cd_syntax.specs.Name.{Name}
-use Rattle.cd_syntax.specs.TypeTree.{Declarations}
 use Rattle.cd_model.specs.AllOf.{AllOf}
 use Rattle.cd_model.specs.Formula.{Graph, IsGraph}
 use Rattle.cd_model.specs.Scope.{Scope}
-use Rattle.cd_program.specs.Expr.{Branches, NoBranch, ABranch, FunctionTree, function}
-use Rattle.cd_program.specs.PlainExpr.{plain_branches, plain_function, plain_interface}
+use Rattle.cd_program.specs.Expr.{Branches, NoBranch, ABranch, FunctionTree, function, Program}
+use Rattle.cd_program.specs.PlainExpr.{plain_branches, plain_function}
 use Rattle.cd_program.specs.declared.expr.FunctionTree.{FunctionTree as CodeFunction}
 use Rattle.cd_program.specs.declared.expr.ExprKind.TheViews.{out-FunctionTree}
 use Rattle.cd_meaning.specs.Sets.{◌⊆◌, elements_of}
@@ -16,13 +15,14 @@ use Rattle.cd_typing.specs.Branches.{Cover}
 use Rattle.cd_typing.specs.Later.{IsLater}
 use Rattle.cd_typing.specs.Typing.{FunctionHas}
 use Rattle.cd_typing.proofs.Later.{below_later}
+use Rattle.cd_resolved.specs.declared.function_nodes.FunctionNodes.{FunctionNodes}
+use Rattle.cd_resolved.specs.Parts.{IsFunctionOf}
 use Rattle.cd_check.specs.declared.base.Base.{Base}
-use Rattle.cd_check.specs.declared.interface.Promise.{Promise}
 use Rattle.cd_check.specs.Inner.Environment.{Nodes, AreNodesOf, Gives, with_node}
 use Rattle.cd_check.specs.Inner.Giving.{BodiesGive, PromiseKept}
 use Rattle.cd_check.specs.Inner.Promises.{ArePairs, HasPromise}
-use Rattle.cd_check.specs.Inner.Ready.{IsReady, IsAfter, declarations_of, names_seen, scope_of, seen_by}
-use Rattle.cd_check.specs.Inner.SoundNames.{BranchesAreSound, PatternsAreSound, FunctionIsSound, AreSoundSignatures}
+use Rattle.cd_check.specs.Inner.Ready.{IsReady, IsAfter, program_of, names_seen, scope_of, seen_by}
+use Rattle.cd_check.specs.Inner.SoundNames.{BranchesAreSound, ArePatternsOf, FunctionIsSound}
 use Rattle.cd_check.proofs.ArrowsKept.{KeptAt, kept_earlier, arrow_kept, all_kept}
 use Rattle.cd_check.proofs.BodiesChecked.{ready_with}
 use Rattle.cd_check.proofs.BranchesGiven.{bodies_from}
@@ -33,12 +33,11 @@ use Rattle.cd_check.proofs.OwnNames.{named_seen, names_in}
 use Rattle.cd_check.proofs.ProgramViews.{function_is}
 use Rattle.cd_check.proofs.Promises.{function_has}
 use Rattle.cd_check.proofs.PromisesKept.{pairs_below}
-use Rattle.cd_check.proofs.TypesLater.{types_later}
 
-pub patterns_sound : (types : Declarations) (seen : Seen) (branches : Branches) → BranchesAreSound types seen branches
-    → PatternsAreSound types branches
-patterns_sound types seen NoBranch sound = tt
-patterns_sound types seen (ABranch pattern body rest) sound = (sound.0, patterns_sound types seen rest sound.2)
+pub patterns_sound : (program : Program) (seen : Seen) (branches : Branches) → BranchesAreSound program seen branches
+    → ArePatternsOf program branches
+patterns_sound program seen NoBranch sound = tt
+patterns_sound program seen (ABranch pattern body rest) sound = (sound.0, patterns_sound program seen rest sound.2)
 
 -- a function's own name before others
 pub seen_named : (base : Base) (locals : Nodes) (name : Option Name) (whole : NodeId) (all : Nodes) → all ≡ with_node name whole locals
@@ -71,21 +70,24 @@ arrows_below scope graph sound (function at name name_at interface branches) arr
     pairs_below graph graph (later_itself graph sound) sound scope interface arrows promise.written
 
 -- a function of the code by its parts
-pub function_sound : (types : Declarations) (seen : Seen) (one : CodeFunction) → FunctionIsSound types seen (plain_function one)
-    → AreSoundSignatures types (plain_interface (out-FunctionTree one).interface)
-    × BranchesAreSound types (with_name (out-FunctionTree one).name seen) (plain_branches (out-FunctionTree one).branches)
-function_sound types seen one sound = subst (λ (f : FunctionTree). FunctionIsSound types seen f) (function_is one) sound
+pub function_sound : (program : Program) (seen : Seen) (one : CodeFunction) → FunctionIsSound program seen (plain_function one)
+    → BranchesAreSound program (with_name (out-FunctionTree one).name seen) (plain_branches (out-FunctionTree one).branches)
+function_sound program seen one sound = (subst (λ (f : FunctionTree). FunctionIsSound program seen f) (function_is one) sound).1
+
+-- it is one of the program
+pub function_within : (program : Program) (seen : Seen) (f : FunctionTree) → FunctionIsSound program seen f → IsFunctionOf program f
+function_within program seen (function at name name_at interface branches) sound = sound.0
 
 -- its branches see its own name
 pub branches_sound : (base : Base) (locals all : Nodes) (whole : NodeId) (one : CodeFunction)
     → all ≡ with_node (out-FunctionTree one).name whole locals
-    → FunctionIsSound (declarations_of base) (names_seen base locals) (plain_function one)
-    → BranchesAreSound (declarations_of base) (names_seen base all) (plain_branches (out-FunctionTree one).branches)
+    → FunctionIsSound (program_of base) (names_seen base locals) (plain_function one)
+    → BranchesAreSound (program_of base) (names_seen base all) (plain_branches (out-FunctionTree one).branches)
 branches_sound base locals all whole one same sound = subst
-    (λ (seen : Seen). BranchesAreSound (declarations_of base) seen (plain_branches (out-FunctionTree one).branches))
+    (λ (seen : Seen). BranchesAreSound (program_of base) seen (plain_branches (out-FunctionTree one).branches))
     (named_seen (out-FunctionTree one).name whole (seen_by base locals)
     ∙ ap names_in (sym (seen_named base locals (out-FunctionTree one).name whole all same)))
-    (function_sound (declarations_of base) (names_seen base locals) one sound).1
+    (function_sound (program_of base) (names_seen base locals) one sound)
 
 -- one arrow, whose argument is divided in a second graph, and whose bodies are checked in a third one
 pub arrow_given : (base : Base) (locals : Nodes) (first : Graph) → IsReady base first locals → (second third : Graph) → IsLater first second
@@ -102,7 +104,7 @@ arrow_given base locals first ready second third is_second is_third branches arr
     (subst (λ (graph : Graph). BodiesGive base graph locals third branches at results) is_same gives)) third arrow.1 within)
 
 -- all arrows
-pub promise_kept : (base : Base) (old : Graph) (locals all : Nodes) (one : CodeFunction) (promise : Promise)
+pub promise_kept : (base : Base) (old : Graph) (locals all : Nodes) (one : CodeFunction) (promise : FunctionNodes)
     → all ≡ with_node (out-FunctionTree one).name promise.whole locals
     → AllOf (KeptAt (scope_of base) old (seen_by base all) (plain_branches (out-FunctionTree one).branches)) promise.arrows.items
     → PromiseKept base old locals (plain_function one) promise
@@ -114,21 +116,17 @@ promise_kept base old locals all one promise same kept = subst (λ (f : Function
     (seen_named base locals (out-FunctionTree one).name promise.whole all same) kept))
 
 -- the function has the type of its interface
-pub function_gives : (base : Base) (old : Graph) (locals : Nodes) → IsReady base old locals → (first last : Graph) → IsLater old first
-    → IsAfter base locals first last → (f : FunctionTree) (promise : Promise)
-    → HasPromise (scope_of base) first f promise.arrows.items promise.whole → PromiseKept base first locals f promise
-    → Gives old (seen_by base locals) last (λ types t. FunctionHas (scope_of base) types f t) promise.whole
-function_gives base old locals ready first last is after f promise has kept = record {
-  is_type = type_in base last locals after.ready promise.whole
-      (whole_in after.later);
-  has = λ types of. function_has (scope_of base) first first last (later_itself first is.sound) after.later is.sound (seen_by base locals) f
-      promise.arrows.items promise.whole (arrows_below (scope_of base) first is.sound f promise.arrows.items promise.whole has)
-      (whole_below (scope_of base) first f promise.arrows.items promise.whole has) has kept types
-      (types_later old first is ready.sound (seen_by base locals) ready.nodes types of);
+pub function_gives : (base : Base) (old : Graph) (locals : Nodes) → IsReady base old locals → (last : Graph) → IsAfter base locals old last
+    → (f : FunctionTree) (nodes : FunctionNodes) → HasPromise (scope_of base) old f nodes.arrows.items nodes.whole
+    → PromiseKept base old locals f nodes
+    → Gives old (seen_by base locals) last (λ types t. FunctionHas (scope_of base) types f t) nodes.whole
+function_gives base old locals ready last after f nodes has kept = record {
+  is_type = type_in base last locals after.ready nodes.whole
+      (below_later old last after.later nodes.whole (whole_below (scope_of base) old f nodes.arrows.items nodes.whole has));
+  has = function_has (scope_of base) old old last (later_itself old ready.sound) after.later ready.sound (seen_by base locals) f
+      nodes.arrows.items nodes.whole (arrows_below (scope_of base) old ready.sound f nodes.arrows.items nodes.whole has)
+      (whole_below (scope_of base) old f nodes.arrows.items nodes.whole has) has kept;
 }
-  where
-    whole_in : IsLater first last → promise.whole.0 < length last
-    whole_in later = below_later first last later promise.whole (whole_below (scope_of base) first f promise.arrows.items promise.whole has)
 
 -- a fact of each of a list is one of what stands at a place
 pub all_at : {X : Type 0} (Is : X → Type 0) (items : List X) (index : ℕ) (item : X) → item ≡ get_or items index item → index < length items

@@ -1,110 +1,50 @@
--- The functions of a program, with what they promise: what is asked of them, and that they make a program that has types.
-use Rattle.std.proofs.Common.{◌≡◌, ◌∙◌, ◌<◌, List, [], ◌∷◌, ◌++◌, refl, sym, ap, ap₂, subst, inl, inr, map, length, Some, None, lit<}
+-- The functions of a program, with their nodes: what is asked of them, and that they make a program that has types.
+use Rattle.std.proofs.Common.{◌≡◌, ◌∙◌, ◌<◌, List, [], ◌∷◌, ◌++◌, refl, sym, ap, ap₂, subst, map, length, Some, None, lit<}
 use Rattle.cd_sets.specs.declared.node_id.NodeId.{NodeId}
 use Rattle.cd_syntax.specs.Name.{Name}
-use Rattle.cd_syntax.specs.TypeTree.{Declarations}
 use Rattle.cd_model.specs.AllOf.{AllOf}
 use Rattle.cd_model.specs.BuiltIns.{DATA, built_ins}
 use Rattle.cd_model.specs.Formula.{Graph, IsGraph}
 use Rattle.cd_model.specs.Scope.{Scope}
+use Rattle.cd_model.proofs.Covered.{each_parts}
 use Rattle.cd_program.specs.Expr.{FunctionTree, function, Program}
-use Rattle.cd_program.specs.WellMade.{HasName, IsWellMadeFunction, AreWellMadeFunctions, IsWellMadeProgram}
-use Rattle.cd_resolve.specs.Faults.{Fault, IsFaultOfDeclarations}
-use Rattle.cd_variables.specs.VariableFaults.{IsOneIn}
-use Rattle.cd_names.specs.ProgramFaults as faults
-use Rattle.cd_names.specs.ProgramFaults.{IsFaultOfProgram, IsFaultOfFunction, Seen, all_functions, declared_names, with_name}
+use Rattle.cd_program.specs.WellMade.{HasName, AreWellMadeFunctions, IsWellMadeProgram}
+use Rattle.cd_resolve.specs.Faults.{Fault}
+use Rattle.cd_names.specs.ProgramFaults.{IsFaultOfProgram, Seen, all_functions, declared_names}
 use Rattle.cd_meaning.specs.Sets.{◌⊆◌, elements_of}
 use Rattle.cd_typing.specs.Later.{IsLater}
 use Rattle.cd_typing.specs.Typ.{In, with_type}
 use Rattle.cd_typing.specs.Typed.{IsTyped}
 use Rattle.cd_typing.proofs.Later.{later_in, earlier_in, below_later}
 use Rattle.cd_typing.proofs.Subsets.{through}
+use Rattle.cd_resolved.specs.Resolved.{function_of, function_nodes}
+use Rattle.cd_resolved.specs.declared.function_nodes.FunctionNodes.{FunctionNodes}
+use Rattle.cd_resolved.specs.declared.resolved.Resolved.{Resolved}
 use Rattle.cd_check.specs.declared.base.Base.{Base}
-use Rattle.cd_check.specs.declared.program.Promised.{Promised}
 use Rattle.cd_check.specs.Inner.Environment.{Nodes, AreNodes, AreNodesOf, declared}
 use Rattle.cd_check.specs.Inner.FunctionNames.{function_names}
 use Rattle.cd_check.specs.Inner.Giving.{PromiseKept}
-use Rattle.cd_check.specs.Inner.Programs.{function_of, SignaturesAreSound, IsPromised, IsSoundFunction, HasArrows, MainGives, ResultsAreData}
-use Rattle.cd_check.specs.Inner.Promises.{ArePairs, KeepsPromise}
-use Rattle.cd_check.specs.Inner.Ready.{scope_of, declarations_of, names_seen}
+use Rattle.cd_check.specs.Inner.Programs.{IsSoundFunction, HasArrows, MainGives, ResultsAreData}
+use Rattle.cd_check.specs.Inner.Promises.{ArePairs, KeepsPromise, IsPromised}
+use Rattle.cd_check.specs.Inner.Ready.{scope_of, program_of, names_seen}
 use Rattle.cd_check.specs.Inner.SoundNames.{FunctionIsSound}
 use Rattle.cd_check.proofs.Promises.{keep_earlier}
 use Rattle.cd_check.proofs.PromisesKept.{has_promise_later}
 use Rattle.cd_check.proofs.ProgramTyped.{program_typed, whole_below, arrows_below}
-use Rattle.cd_check.proofs.SoundExprs.{signatures_sound, sound_branches}
+use Rattle.cd_check.proofs.SoundExprs.{program_sound}
 use Rattle.cd_check.proofs.TypesLater.{types_later}
 use Rattle.cd_names.proofs.ArrowsResolved.{all_of_map}
 
-abbrev pub arrows_of : Promised → List (NodeId × NodeId)
-arrows_of one = one.promise.arrows.items
+abbrev pub arrows_of : FunctionNodes → List (NodeId × NodeId)
+arrows_of one = one.arrows.items
 
-abbrev pub whole_of : Promised → NodeId
-whole_of one = one.promise.whole
+abbrev pub whole_of : FunctionNodes → NodeId
+whole_of one = one.whole
 
 -- in the same graph
 pub within_same : (graph other : Graph) → graph ≡ other → (one two : NodeId) → elements_of graph one ⊆ elements_of graph two
     → elements_of other one ⊆ elements_of other two
 within_same graph other same one two within = subst (λ (is : Graph). elements_of is one ⊆ elements_of is two) same within
-
--- a program without naming faults
-module _ (program : Program) (none : (fault : Fault) → IsFaultOfProgram program fault → ⊥) where
-  -- the functions are of the program
-  abbrev AreOfProgram : List FunctionTree → Type 0
-  AreOfProgram all = (f : FunctionTree) → IsOneIn f all → IsOneIn f program.functions
-
-  free_of : (f : FunctionTree) → IsOneIn f program.functions → (fault : Fault)
-      → IsFaultOfFunction program.types (all_functions program) f fault → ⊥
-  free_of f is fault has = none fault (faults.IsFaultOfProgram.in_function f fault is has)
-
-  signatures_of : (f : FunctionTree) → IsWellMadeFunction f → IsOneIn f program.functions
-      → SignaturesAreSound program.types f
-  signatures_of (function at name name_at interface branches) made is = signatures_sound program.types interface made.2
-      (λ t here fault has. free_of (function at name name_at interface branches) is fault (faults.IsFaultOfFunction.in_type t fault here has))
-
-  sound_of : (f : FunctionTree) → IsWellMadeFunction f → IsOneIn f program.functions
-      → FunctionIsSound program.types (all_functions program) f
-  sound_of (function at name name_at interface branches) made is = (
-    signatures_of (function at name name_at interface branches) made is,
-    sound_branches program.types branches (with_name name (all_functions program)) made.4
-        (λ inner e here fault has. free_of (function at name name_at interface branches) is fault
-        (faults.IsFaultOfFunction.in_body inner e fault here has))
-        (λ pattern here fault has. free_of (function at name name_at interface branches) is fault
-        (faults.IsFaultOfFunction.in_pattern pattern fault here has)),
-  )
-
-  signatures_of_all : (all : List FunctionTree) → AreOfProgram all → AreWellMadeFunctions all
-      → AllOf (SignaturesAreSound program.types) all
-  signatures_of_all [] within made = tt
-  signatures_of_all (f ∷ rest) within made = (
-    signatures_of f made.1 (within f (inl refl)),
-    signatures_of_all rest (λ other is. within other (inr is)) made.2,
-  )
-
-  sound_of_all : (all : List FunctionTree) → AreOfProgram all → AreWellMadeFunctions all
-      → AllOf (FunctionIsSound program.types (all_functions program)) all
-  sound_of_all [] within made = tt
-  sound_of_all (f ∷ rest) within made = (
-    sound_of f made.1 (within f (inl refl)),
-    sound_of_all rest (λ other is. within other (inr is)) made.2,
-  )
-
-  pub signatures_of_program : IsWellMadeProgram program → AllOf (SignaturesAreSound program.types) program.functions
-  signatures_of_program made = signatures_of_all program.functions (λ f is. is) made.1
-
-  pub sound_functions : IsWellMadeProgram program → AllOf (FunctionIsSound program.types (all_functions program)) program.functions
-  sound_functions made = sound_of_all program.functions (λ f is. is) made.1
-
--- types as the declarations of the program
-pub types_sound : (program : Program) → ((fault : Fault) → IsFaultOfProgram program fault → ⊥) → (types : Declarations) → types ≡ program.types
-    → (fault : Fault) → IsFaultOfDeclarations types fault → ⊥
-types_sound program none types same fault has = none fault (faults.IsFaultOfProgram.in_types fault
-    (subst (λ (ts : Declarations). IsFaultOfDeclarations ts fault) same has))
-
-pub signatures_by : (program : Program) → ((fault : Fault) → IsFaultOfProgram program fault → ⊥) → IsWellMadeProgram program
-    → (types : Declarations) → types ≡ program.types → (all : List FunctionTree) → all ≡ program.functions → AllOf (SignaturesAreSound types) all
-signatures_by program none made types same all are =
-    subst (λ (ts : Declarations). AllOf (SignaturesAreSound ts) all) (sym same)
-    (subst (λ (functions : List FunctionTree). AllOf (SignaturesAreSound program.types) functions) (sym are) (signatures_of_program program none made))
 
 -- all that are declared have names
 pub all_named : (all : List FunctionTree) → AreWellMadeFunctions all → AllOf HasName all
@@ -118,7 +58,7 @@ one_name : (f : FunctionTree) (whole : NodeId) (rest : List FunctionTree) (ids :
 one_name (function at None name_at interface branches) whole rest ids named same = absurd named
 one_name (function at (Some name) name_at interface branches) whole rest ids named same = ap (λ names. name ∷ names) same
 
-pub names_declared : (all : List Promised) → AllOf (λ one. HasName (function_of one)) all
+pub names_declared : (all : List FunctionNodes) → AllOf (λ one. HasName (function_of one)) all
     → map (λ node. node.0) (declared (function_names (map function_of all)) (map whole_of all))
     ≡ map (λ occurrence. occurrence.name) (declared_names (map function_of all))
 names_declared [] named = refl
@@ -132,12 +72,12 @@ nodes_declared graph (name ∷ names) [] are = tt
 nodes_declared graph (name ∷ names) (id ∷ ids) are = (are.0, nodes_declared graph names ids are.1)
 
 module _ (scope : Scope) where
-  pub wholes_below : (graph : Graph) (all : List Promised) → AllOf (IsPromised scope graph) all → AreNodes graph (map whole_of all)
+  pub wholes_below : (graph : Graph) (all : List FunctionNodes) → AllOf (IsPromised scope graph) all → AreNodes graph (map whole_of all)
   wholes_below graph [] promised = tt
   wholes_below graph (one ∷ rest) promised =
       (whole_below scope graph (function_of one) (arrows_of one) (whole_of one) promised.0, wholes_below graph rest promised.1)
 
-  pub have_arrows : (graph : Graph) → IsGraph graph → (all : List Promised) → AllOf (IsPromised scope graph) all → AllOf (HasArrows graph) all
+  pub have_arrows : (graph : Graph) → IsGraph graph → (all : List FunctionNodes) → AllOf (IsPromised scope graph) all → AllOf (HasArrows graph) all
   have_arrows graph sound [] promised = tt
   have_arrows graph sound (one ∷ rest) promised = (
     arrows_below scope graph sound (function_of one) (arrows_of one) (whole_of one) promised.0,
@@ -145,14 +85,7 @@ module _ (scope : Scope) where
   )
 
   module _ (graph later : Graph) (is : IsLater graph later) (sound : IsGraph graph) where
-    pub all_promised_later : (all : List Promised) → AllOf (IsPromised scope graph) all → AllOf (IsPromised scope later) all
-    all_promised_later [] promised = tt
-    all_promised_later (one ∷ rest) promised = (
-      has_promise_later graph later is sound scope (function_of one) (arrows_of one) (whole_of one) promised.0,
-      all_promised_later rest promised.1,
-    )
-
-    pub promise_later : (one : Promised) → IsPromised scope graph one → IsPromised scope later one
+    pub promise_later : (one : FunctionNodes) → IsPromised scope graph one → IsPromised scope later one
     promise_later one promised = has_promise_later graph later is sound scope (function_of one) (arrows_of one) (whole_of one) promised
 
     -- what is kept in a longer graph
@@ -165,7 +98,7 @@ module _ (scope : Scope) where
           whole = through (In self) (elements_of graph whole) (elements_of later whole) same.whole (later_in graph later is sound whole below);
         }))
 
-    pub promise_kept_earlier : (nodes : Nodes) → AreNodesOf graph nodes → (one : Promised) → IsPromised scope graph one
+    pub promise_kept_earlier : (nodes : Nodes) → AreNodesOf graph nodes → (one : FunctionNodes) → IsPromised scope graph one
         → KeepsPromise scope later nodes (function_of one) (arrows_of one) (whole_of one)
         → KeepsPromise scope graph nodes (function_of one) (arrows_of one) (whole_of one)
     promise_kept_earlier nodes nodes_are one promised keeps = keeps_earlier nodes nodes_are (function_of one) (arrows_of one) (whole_of one)
@@ -181,7 +114,7 @@ module _ (scope : Scope) where
       results_earlier below arrows pairs.1 are.1,
     )
 
-    pub main_earlier : DATA.0 < length graph → (all : List Promised) → AllOf (IsPromised scope graph) all → AllOf (MainGives later) all
+    pub main_earlier : DATA.0 < length graph → (all : List FunctionNodes) → AllOf (IsPromised scope graph) all → AllOf (MainGives later) all
         → AllOf (MainGives graph) all
     main_earlier below [] promised main = tt
     main_earlier below (one ∷ rest) promised main = (
@@ -190,16 +123,15 @@ module _ (scope : Scope) where
       main_earlier below rest promised.1 main.1,
     )
 
--- in a longer graph, by what a check goes by
-pub promised_on : (types : Declarations) (base : Base) (old new : Graph) → IsLater old new → IsGraph old → declarations_of base ≡ types
-    → (all slice : List Promised) → slice ≡ all → AllOf (IsPromised (types ∷ []) old) all → AllOf (IsPromised (scope_of base) new) slice
-promised_on types base old new is sound same all slice are promised =
-    subst (λ (ts : Declarations). AllOf (IsPromised (ts ∷ []) new) slice) (sym same)
-    (subst (λ (items : List Promised). AllOf (IsPromised (types ∷ []) new) items) (sym are)
-    (all_promised_later (types ∷ []) old new is sound all promised))
+-- the first of those of the program that a check goes by
+pub first_promised : (base : Base) (graph : Graph) → AllOf (IsPromised (scope_of base) graph) (function_nodes base.resolved.now)
+    → (program : Resolved) → base.resolved.now ≡ program → (first rest : List FunctionNodes) → function_nodes program ≡ first ++ rest
+    → AllOf (IsPromised (scope_of base) graph) first
+first_promised base graph promised program same first rest are = (each_parts (IsPromised (scope_of base) graph) first rest
+    (subst (λ (all : List FunctionNodes). AllOf (IsPromised (scope_of base) graph) all) (ap function_nodes same ∙ are) promised)).0
 
 -- a check of these functions goes by these names and nodes
-module _ (program : Program) (base : Base) (same : declarations_of base ≡ program.types) (all : List Promised)
+module _ (program : Program) (base : Base) (same : program_of base ≡ program) (all : List FunctionNodes)
     (are : map function_of all ≡ program.functions) (names : base.functions.now ≡ function_names program.functions)
     (ids : base.interfaces.now ≡ map whole_of all) (made : IsWellMadeProgram program) where
   pub are_named : AllOf (λ one. HasName (function_of one)) all
@@ -218,19 +150,20 @@ module _ (program : Program) (base : Base) (same : declarations_of base ≡ prog
 
   -- no name in them is at fault
   pub all_sound : ((fault : Fault) → IsFaultOfProgram program fault → ⊥)
-      → AllOf (IsSoundFunction (declarations_of base) (names_seen base [])) all
-  all_sound none = all_of_map function_of (FunctionIsSound (declarations_of base) (names_seen base [])) all
-      (subst (λ (functions : List FunctionTree). AllOf (FunctionIsSound (declarations_of base) (names_seen base [])) functions) (sym are)
-      (subst (λ (seen : Seen). AllOf (FunctionIsSound (declarations_of base) seen) program.functions) (sym names_seen_are)
-      (subst (λ (types : Declarations). AllOf (FunctionIsSound types (all_functions program)) program.functions) (sym same)
-      (sound_functions program none made))))
+      → AllOf (IsSoundFunction (program_of base) (names_seen base [])) all
+  all_sound none = all_of_map function_of (FunctionIsSound (program_of base) (names_seen base [])) all
+      (subst (λ (functions : List FunctionTree). AllOf (FunctionIsSound (program_of base) (names_seen base [])) functions) (sym are)
+      (subst (λ (seen : Seen). AllOf (FunctionIsSound (program_of base) seen) program.functions) (sym names_seen_are)
+      (subst (λ (whole : Program). AllOf (FunctionIsSound whole (all_functions program)) program.functions) (sym same)
+      (program_sound program made none))))
 
   -- they keep what they promise, and `main` gives data by a longer graph
   pub checked_typed : (graph last more : Graph) → graph ≡ built_ins ++ more → IsGraph graph → IsLater graph last
       → AllOf (IsPromised (scope_of base) graph) all
-      → AllOf (λ one. PromiseKept base graph [] (function_of one) one.promise) all → AllOf (MainGives last) all → IsTyped program
+      → AllOf (λ one. PromiseKept base graph [] (function_of one) one) all → AllOf (MainGives last) all → IsTyped program
   checked_typed graph last more begins sound is promised kept main =
-      program_typed function_of arrows_of whole_of (declarations_of base) graph more begins sound program same all are are_named promised
+      program_typed function_of arrows_of whole_of (program_of base).types graph more begins sound program (ap (λ (whole : Program). whole.types) same)
+      all are are_named promised
       (subst (λ (nodes : Nodes). AllOf (λ one. KeepsPromise (scope_of base) graph nodes (function_of one) (arrows_of one) (whole_of one)) all)
       nodes_of_all kept)
       (main_earlier (scope_of base) graph last is sound

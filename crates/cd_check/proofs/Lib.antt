@@ -4,6 +4,7 @@ mod Arguments
 mod ArgumentsLeast
 mod ArrowFaults
 mod ArrowsKept
+mod AtNumbers
 mod BaseReady
 mod BodiesChecked
 mod BodiesDone
@@ -41,6 +42,7 @@ mod Loops
 mod MoreNames
 mod NamesFound
 mod Needed
+mod NodesPromise
 mod NextOne
 mod OneOfAll
 mod OperandFaults
@@ -55,6 +57,7 @@ mod OwnTypes
 mod Places
 mod ProgramFails
 mod ProgramFaultsReported
+mod ProgramReady
 mod ProgramTyped
 mod ProgramViews
 mod Promises
@@ -63,6 +66,7 @@ mod ReadyLater
 mod RecordsLabelled
 mod SidesHeld
 mod SidesLeast
+mod SitesPut
 mod Sizes
 mod SoundAt
 mod SoundExprs
@@ -74,5 +78,4 @@ mod TypesLater
 mod Uncovered
 mod Variables
 mod Walks
-mod WrittenArrows
 mod XmlKnown

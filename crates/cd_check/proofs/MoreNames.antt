@@ -2,7 +2,7 @@
 use Rattle.std.proofs.Common.{◌≡◌, Bool, true, false, [], ◌∷◌, ◌++◌, ◌⊎◌, inl, inr, refl, sym, bytes_eq, ◌||◌, Option, Some, None}
 use Rattle.std.proofs.lemmas.Bool.{or_cases, true≢false}
 use Rattle.cd_syntax.specs.Name.{Name}
-use Rattle.cd_syntax.specs.TypeTree.{Declarations}
+use Rattle.cd_program.specs.Expr.{Program}
 use Rattle.cd_program.specs.Expr.{Expr, expr, Kind, Constant, Variable, Tuple, Sequence, Record, Xml}
 use Rattle.cd_program.specs.Expr.{Function, Apply, Match, Try, Map, Transform, Let, If, Chain, Call}
 use Rattle.cd_program.specs.Expr.{Exprs, NoExpr, AnExpr, Items, NoItem, AnItem, One, Splice, Run}
@@ -35,12 +35,12 @@ pub under_name : (name : Option Name) (seen more : Seen) → AllSeen seen more �
 under_name None seen more all = all
 under_name (Some name) seen more all = under (name ∷ []) seen more all
 
-module _ (types : Declarations) where
+module _ (program : Program) where
   mutual
-    pub sound_more : (e : Expr) (seen more : Seen) → AllSeen seen more → IsSound types seen e → IsSound types more e
+    pub sound_more : (e : Expr) (seen more : Seen) → AllSeen seen more → IsSound program seen e → IsSound program more e
     sound_more (expr span kind) seen more all sound = kind_more kind seen more all sound
 
-    kind_more : (kind : Kind) (seen more : Seen) → AllSeen seen more → KindIsSound types seen kind → KindIsSound types more kind
+    kind_more : (kind : Kind) (seen more : Seen) → AllSeen seen more → KindIsSound program seen kind → KindIsSound program more kind
     kind_more (Constant is) seen more all sound = sound
     kind_more (Variable name) seen more all sound = all name sound
     kind_more (Tuple exprs) seen more all sound = all_more exprs seen more all sound
@@ -76,12 +76,12 @@ module _ (types : Declarations) where
         (sound_more first seen more all sound.0, tails_more tails seen more all sound.1)
     kind_more (Call word operand) seen more all sound = sound_more operand seen more all sound
 
-    all_more : (exprs : Exprs) (seen more : Seen) → AllSeen seen more → AreSound types seen exprs → AreSound types more exprs
+    all_more : (exprs : Exprs) (seen more : Seen) → AllSeen seen more → AreSound program seen exprs → AreSound program more exprs
     all_more NoExpr seen more all sound = tt
     all_more (AnExpr e rest) seen more all sound =
         (sound_more e seen more all sound.0, all_more rest seen more all sound.1)
 
-    items_more : (items : Items) (seen more : Seen) → AllSeen seen more → ItemsAreSound types seen items → ItemsAreSound types more items
+    items_more : (items : Items) (seen more : Seen) → AllSeen seen more → ItemsAreSound program seen items → ItemsAreSound program more items
     items_more NoItem seen more all sound = tt
     items_more (AnItem (One e) rest) seen more all sound =
         (sound_more e seen more all sound.0, items_more rest seen more all sound.1)
@@ -89,21 +89,21 @@ module _ (types : Declarations) where
         (sound_more e seen more all sound.0, items_more rest seen more all sound.1)
     items_more (AnItem (Run characters) rest) seen more all sound = (sound.0, items_more rest seen more all sound.1)
 
-    fields_more : (fields : Fields) (seen more : Seen) → AllSeen seen more → FieldsAreSound types seen fields
-        → FieldsAreSound types more fields
+    fields_more : (fields : Fields) (seen more : Seen) → AllSeen seen more → FieldsAreSound program seen fields
+        → FieldsAreSound program more fields
     fields_more NoField seen more all sound = tt
     fields_more (AField label at e rest) seen more all sound =
         (sound.0, sound.1, sound_more e seen more all sound.2, fields_more rest seen more all sound.3)
 
-    tails_more : (tails : Tails) (seen more : Seen) → AllSeen seen more → TailsAreSound types seen tails → TailsAreSound types more tails
+    tails_more : (tails : Tails) (seen more : Seen) → AllSeen seen more → TailsAreSound program seen tails → TailsAreSound program more tails
     tails_more NoTail seen more all sound = tt
     tails_more (ATail (Operand op e) rest) seen more all sound =
         (sound_more e seen more all sound.0, tails_more rest seen more all sound.1)
     tails_more (ATail (Without label) rest) seen more all sound = (sound.0, tails_more rest seen more all sound.1)
     tails_more (ATail (Select label) rest) seen more all sound = (sound.0, tails_more rest seen more all sound.1)
 
-    pub branches_more : (branches : Branches) (seen more : Seen) → AllSeen seen more → BranchesAreSound types seen branches
-        → BranchesAreSound types more branches
+    pub branches_more : (branches : Branches) (seen more : Seen) → AllSeen seen more → BranchesAreSound program seen branches
+        → BranchesAreSound program more branches
     branches_more NoBranch seen more all sound = tt
     branches_more (ABranch pattern body rest) seen more all sound = (
       sound.0,

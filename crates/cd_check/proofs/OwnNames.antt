@@ -4,12 +4,12 @@ use Rattle.std.proofs.lemmas.Bool.{true≢false}
 use Rattle.std.proofs.lemmas.List.{map-append}
 use Rattle.cd_sets.specs.declared.node_id.NodeId.{NodeId}
 use Rattle.cd_syntax.specs.Name.{Name}
-use Rattle.cd_syntax.specs.TypeTree.{Tree, Declarations}
+use Rattle.cd_syntax.specs.TypeTree.{Tree}
 use Rattle.cd_model.specs.Formula.{Graph}
 use Rattle.cd_model.specs.Scope.{Scope}
 use Rattle.cd_model.specs.Thing.{Thing}
 use Rattle.cd_matching.specs.Captures.{Captures}
-use Rattle.cd_program.specs.Expr.{Expr}
+use Rattle.cd_program.specs.Expr.{Expr, Program}
 use Rattle.cd_meaning.specs.Sets.{Set}
 use Rattle.cd_names.specs.ProgramFaults.{Seen, is_seen, names_of, with_name}
 use Rattle.cd_typing.specs.Typ.{Typ, typ, type_at}
@@ -69,13 +69,13 @@ either_seen (one ∷ own) seen name there = by (bytes_eq name one) there (either
     by false there further = further there
 
 -- the variables of a pattern that takes something have types
-pub body_sound : (types : Declarations) (graph : Graph) (scope : Scope) (pattern : Tree) (matched : Set) (own nodes : Nodes)
+pub body_sound : (program : Program) (graph : Graph) (scope : Scope) (pattern : Tree) (matched : Set) (own nodes : Nodes)
     → CaptureAll scope pattern → HoldCaptured scope (types_of graph own) [] pattern matched
     → (e : Thing) (captures : Captures Name) → IsFirst scope [] pattern matched e captures
-    → (body : Expr) → IsSound types (names_of pattern ++ names_in nodes) body → IsSound types (names_in (own ++ nodes)) body
-body_sound types graph scope pattern matched own nodes all hold e captures first body sound =
-    subst (λ seen. IsSound types seen body) (sym (map-append (λ (node : Name × NodeId). node.0) own nodes))
-    (sound_more types body (names_of pattern ++ names_in nodes) (names_in own ++ names_in nodes) more sound)
+    → (body : Expr) → IsSound program (names_of pattern ++ names_in nodes) body → IsSound program (names_in (own ++ nodes)) body
+body_sound program graph scope pattern matched own nodes all hold e captures first body sound =
+    subst (λ seen. IsSound program seen body) (sym (map-append (λ (node : Name × NodeId). node.0) own nodes))
+    (sound_more program body (names_of pattern ++ names_in nodes) (names_in own ++ names_in nodes) more sound)
   where
     bound : (name : Name) → is_seen (names_of pattern) name ≡ true → is_seen (names_in own) name ≡ true
     bound name is = let what = all e captures name first.element first.takes is in

@@ -1,10 +1,7 @@
 -- Branches and functions of the code as plain data.
-use Rattle.std.proofs.Common.{◌≡◌, ap, sym, subst, List}
-use Rattle.cd_sets.specs.declared.node_id.NodeId.{NodeId}
+use Rattle.std.proofs.Common.{◌≡◌, ap}
 use Rattle.cd_syntax.specs.PlainTree.{plain as plain_tree}
-use Rattle.cd_model.specs.Formula.{Graph}
-use Rattle.cd_model.specs.Scope.{Scope}
-use Rattle.cd_program.specs.Expr.{Branch, Field, FunctionTree, function}
+use Rattle.cd_program.specs.Expr.{Branch, Field, function}
 use Rattle.cd_program.specs.PlainExpr.{plain, plain_branch, plain_branches, plain_field, plain_function, plain_interface}
 use Rattle.cd_program.specs.PlainExpr.{kind_layer, item_layer, tail_layer, branch_layer, branches_layer, expr_layer}
 use Rattle.cd_program.specs.PlainExpr.{exprs_layer, field_layer, fields_layer, function_layer, items_layer, tails_layer}
@@ -12,7 +9,6 @@ use Rattle.cd_program.specs.declared.expr.Branch.{Branch as CodeBranch, fold_out
 use Rattle.cd_program.specs.declared.expr.FieldExpr.{FieldExpr as CodeField, fold_out-FieldExpr}
 use Rattle.cd_program.specs.declared.expr.FunctionTree.{FunctionTree as CodeFunction, fold_out-FunctionTree}
 use Rattle.cd_program.specs.declared.expr.ExprKind.TheViews.{out-Branch, out-FieldExpr, out-FunctionTree}
-use Rattle.cd_check.specs.Inner.Promises.{IsPromise, HasPromise}
 
 branch_is : (one : CodeBranch) → plain_branch one
     ≡ record { pattern = plain_tree (out-Branch one).pattern; body = plain (out-Branch one).body }
@@ -40,9 +36,3 @@ pub function_is : (one : CodeFunction) → plain_function one ≡ function (out-
 function_is = fold_out-FunctionTree _ _ _ _ _ _ _ _ _ _ _ _
     kind_layer item_layer tail_layer branch_layer branches_layer expr_layer exprs_layer field_layer fields_layer
     function_layer items_layer tails_layer
-
--- a function promises what its interface does
-pub function_promise : (scope : Scope) (graph : Graph) (one : CodeFunction) (arrows : List (NodeId × NodeId)) (whole : NodeId)
-    → IsPromise scope graph (plain_interface (out-FunctionTree one).interface) arrows whole → HasPromise scope graph (plain_function one) arrows whole
-function_promise scope graph one arrows whole promise =
-    subst (λ (f : FunctionTree). HasPromise scope graph f arrows whole) (sym (function_is one)) promise

@@ -1,10 +1,11 @@
 -- A graph that is ready for a check stays so as it grows.
-use Rattle.std.proofs.Common.{◌≡◌, Bool, true, false, [], ◌∷◌, ◌++◌, sym, subst, ap, ◌∙◌, append_assoc}
+use Rattle.std.proofs.Common.{◌≡◌, Bool, true, false, List, [], ◌∷◌, ◌++◌, ap, ◌∙◌, append_assoc}
 use Rattle.cd_sets.specs.declared.node_id.NodeId.{NodeId}
 use Rattle.cd_model.specs.BuiltIns.{built_ins}
+use Rattle.cd_model.specs.AllOf.{AllOf}
 use Rattle.cd_model.specs.Formula.{Graph, IsGraph}
-use Rattle.cd_resolve.specs.Named.{AreNamed, Names}
-use Rattle.cd_resolve.proofs.Kept.{names_kept}
+use Rattle.cd_model.specs.Scope.{Scope}
+use Rattle.cd_model.proofs.Ones.{each_weaker}
 use Rattle.cd_meaning.specs.Sequences.{IsSequence, IsListOf}
 use Rattle.cd_typing.specs.Operators.{truth, IsNumbers}
 use Rattle.cd_operators.specs.Tools.{AreTools, IsZero}
@@ -14,7 +15,12 @@ use Rattle.cd_empty.specs.Seen.{Seen, graph_of}
 use Rattle.cd_check.specs.declared.base.Base.{Base}
 use Rattle.cd_check.specs.Inner.Environment.{Nodes, AreNodesOf}
 use Rattle.cd_typing.specs.Later.{IsLater}
-use Rattle.cd_check.specs.Inner.Ready.{IsTruth, IsReady}
+use Rattle.cd_resolved.specs.Resolved.{function_of, function_nodes}
+use Rattle.cd_resolved.specs.declared.function_nodes.FunctionNodes.{FunctionNodes}
+use Rattle.cd_check.specs.Inner.Promises.{IsPromised}
+use Rattle.cd_check.specs.Inner.Ready.{IsTruth, IsReady, scope_of}
+use Rattle.cd_check.proofs.Divided.{all_sited_later}
+use Rattle.cd_check.proofs.PromisesKept.{has_promise_later}
 use Rattle.cd_typing.proofs.Later.{below_later, only_later, still_holds}
 
 pub later_of : (old new : Seen) → Grows old new → IsGraph (graph_of new) → IsLater (graph_of old) (graph_of new)
@@ -48,8 +54,9 @@ module _ (graph later : Graph) (is : IsLater graph later) (sound : IsGraph graph
   nodes_of_later [] are = tt
   nodes_of_later (node ∷ nodes) are = (below_later graph later is node.1 are.0, nodes_of_later nodes are.1)
 
-  pub named_later : (names : Names) → AreNamed graph names → AreNamed later names
-  named_later names named = subst (λ whole. AreNamed whole names) (sym is.is) (names_kept graph is.more names sound named)
+  pub promised_later : (scope : Scope) (all : List FunctionNodes) → AllOf (IsPromised scope graph) all → AllOf (IsPromised scope later) all
+  promised_later scope = each_weaker (IsPromised scope graph) (IsPromised scope later)
+      (λ one. has_promise_later graph later is sound scope (function_of one) one.arrows.items one.whole)
 
 pub ready_later : (base : Base) (graph later : Graph) → IsLater graph later → (locals : Nodes) → IsReady base graph locals
     → IsReady base later locals
@@ -58,8 +65,10 @@ ready_later base graph later is locals ready = record {
   begins = is.is ∙ ap (λ start. start ++ is.more) ready.begins ∙ append_assoc built_ins ready.more is.more;
   sound = is.sound;
   nodes = nodes_of_later graph later is ready.sound _ ready.nodes;
-  named = named_later graph later is ready.sound _ ready.named;
-  names_sound = ready.names_sound;
+  resolved = ready.resolved;
+  patterns = ready.patterns;
+  sited = all_sited_later graph later is (scope_of base) base.sites.now ready.sited;
+  promised = promised_later graph later is ready.sound (scope_of base) (function_nodes base.resolved.now) ready.promised;
   tools = tools_later graph later is ready.sound base.tools ready.tools;
   yes = truth_later graph later is ready.sound true base.yes ready.yes;
   no = truth_later graph later is ready.sound false base.no ready.no;

@@ -5,7 +5,7 @@ use Rattle.std.proofs.lemmas.List.{length-map}
 use Rattle.std.proofs.lemmas.Slice.Eq.{bytes_eq-Decides}
 use Rattle.cd_sets.specs.declared.node_id.NodeId.{NodeId}
 use Rattle.cd_syntax.specs.Name.{Name}
-use Rattle.cd_syntax.specs.TypeTree.{Declarations}
+use Rattle.cd_program.specs.Expr.{Program}
 use Rattle.cd_model.specs.AllOf.{AllOf}
 use Rattle.cd_model.specs.Formula.{Graph}
 use Rattle.cd_model.specs.Scope.{Scope}
@@ -21,18 +21,18 @@ use Rattle.cd_coming.specs.CapturedTypes.{types_of}
 use Rattle.cd_check.specs.Inner.Environment.{Nodes, AreOfTypes}
 use Rattle.cd_check.specs.Inner.SoundNames.{FieldsAreSound}
 
-pub are_labels : (types : Declarations) (seen : Seen) (fields : Fields) → FieldsAreSound types seen fields → AreLabels fields
-are_labels types seen NoField sound = tt
-are_labels types seen (AField label at e rest) sound = (sound.0, are_labels types seen rest sound.3)
+pub are_labels : (program : Program) (seen : Seen) (fields : Fields) → FieldsAreSound program seen fields → AreLabels fields
+are_labels program seen NoField sound = tt
+are_labels program seen (AField label at e rest) sound = (sound.0, are_labels program seen rest sound.3)
 
 others : (label : Name) (fields : Fields) → LacksLabel label fields → AllOf (λ other. label ≢ other) (labels_of fields)
 others label NoField lacks = tt
 others label (AField other at e rest) lacks =
     (λ same. true≢false (sym ((bytes_eq-Decides other label).1 (sym same)) ∙ lacks.0), others label rest lacks.1)
 
-pub are_once : (types : Declarations) (seen : Seen) (fields : Fields) → FieldsAreSound types seen fields → AreOnce (labels_of fields)
-are_once types seen NoField sound = tt
-are_once types seen (AField label at e rest) sound = (others label rest sound.1, are_once types seen rest sound.3)
+pub are_once : (program : Program) (seen : Seen) (fields : Fields) → FieldsAreSound program seen fields → AreOnce (labels_of fields)
+are_once program seen NoField sound = tt
+are_once program seen (AField label at e rest) sound = (others label rest sound.1, are_once program seen rest sound.3)
 
 pub some_types : (graph : Graph) (nodes : Nodes) → AreOfTypes graph nodes (types_of graph nodes)
 some_types graph [] = tt

@@ -10,7 +10,7 @@ ghost use Rattle.cd_check.specs.Inner.Bodies.{BodyGives};
 ghost use Rattle.cd_check.specs.Inner.Divided.{IsSited, IsDivision, coming_pattern, sited_pattern};
 ghost use Rattle.cd_check.specs.Inner.Giving.{BodiesGive};
 ghost use Rattle.cd_check.specs.Inner.Limits.{AreWithin, IsOneWithin, IsLimit};
-ghost use Rattle.cd_check.specs.Inner.Ready.{IsReady, IsAfter, declarations_of, names_seen, scope_of, seen_by};
+ghost use Rattle.cd_check.specs.Inner.Ready.{IsReady, IsAfter, program_of, names_seen, scope_of, seen_by};
 ghost use Rattle.cd_check.specs.Inner.SoundNames.{IsSound, BranchesAreSound};
 
 use crate::base::Base;
@@ -36,15 +36,15 @@ pub(crate) struct Limit {
 /// The types of the bodies of branches that something comes to.
 #[cycle(check)]
 pub(crate) fn check_bodies(
-    base: &Base<'_, '_>,
+    base: &Base<'_, '_, '_>,
     world: &mut World,
     locals: &[(Name, NodeId)],
     branches: &Branches,
-    division: &Division<'_, '_>,
+    division: &Division<'_, '_, '_>,
     limit: Option<Limit>,
 ) -> Result<Vec<NodeId>, CheckError>
     requires ready { IsReady base.now (graph_of world.old) locals.now }
-    requires sound { BranchesAreSound (declarations_of base.now) (names_seen base.now locals.now)
+    requires sound { BranchesAreSound (program_of base.now) (names_seen base.now locals.now)
         (plain_branches branches.now) }
     requires division { IsDivision (graph_of world.old) (scope_of base.now) division.now }
     requires patterns { map coming_pattern division.now.comings.items
@@ -80,15 +80,15 @@ pub(crate) fn check_bodies(
 /// The type of a body for what comes to it, if anything does.
 #[cycle(check)]
 pub(crate) fn check_body(
-    base: &Base<'_, '_>,
+    base: &Base<'_, '_, '_>,
     world: &mut World,
     locals: &[(Name, NodeId)],
-    coming: Coming<'_, '_>,
+    coming: Coming<'_, '_, '_>,
     body: &Expr,
     limit: Option<Limit>,
 ) -> Result<Option<NodeId>, CheckError>
     requires ready { IsReady base.now (graph_of world.old) locals.now }
-    requires sound { IsSound (declarations_of base.now)
+    requires sound { IsSound (program_of base.now)
         (names_of (coming_pattern coming) ++ names_seen base.now locals.now) (plain body.now) }
     requires sited { IsSited (graph_of world.old) (scope_of base.now) coming.sited.now }
     requires matched { coming.matched.0 < length (graph_of world.old) }

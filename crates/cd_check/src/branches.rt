@@ -6,21 +6,22 @@ ghost use Rattle.cd_program.specs.PlainExpr.{plain, plain_branches};
 ghost use Rattle.cd_meaning.specs.Sets.{elements_of};
 ghost use Rattle.cd_names.specs.ProgramFaults.{names_of};
 ghost use Rattle.cd_empty.specs.Seen.{graph_of, table_of};
+ghost use Rattle.cd_resolved.specs.Parts.{IsPatternOf};
 ghost use Rattle.cd_check.specs.Inner.BodyFaults.{BodiesLeast, BranchesLeast};
 ghost use Rattle.cd_check.specs.Inner.Failing.{KindFails, FormFails, CoveringFails, BranchesFail};
 ghost use Rattle.cd_check.specs.Inner.Giving.{KindGives, BranchesGive, BodiesGive};
 ghost use Rattle.cd_check.specs.Inner.Limits.{AreWithin, IsLimit};
 ghost use Rattle.cd_check.specs.Inner.LeastNodes.{KindLeast};
-ghost use Rattle.cd_check.specs.Inner.Ready.{IsReady, IsAfter, declarations_of, names_seen};
+ghost use Rattle.cd_check.specs.Inner.Ready.{IsReady, IsAfter, program_of, names_seen};
 ghost use Rattle.cd_check.specs.Inner.Ready.{scope_of, seen_by};
-ghost use Rattle.cd_check.specs.Inner.SoundNames.{IsSound, IsSoundPattern, BranchesAreSound};
+ghost use Rattle.cd_check.specs.Inner.SoundNames.{IsSound, BranchesAreSound};
 
 use crate::base::Base;
 use crate::bodies::{Limit, check_bodies, check_body};
 use crate::expr::check;
 use crate::fault::CheckError;
 use crate::needing::{add, need_at};
-use crate::sites::{Coming, cover, divide, sites_of, with_site};
+use crate::sites::{Coming, cover, divide, site_at};
 use cd_empty::World;
 use cd_forms::{items, list_of, union};
 use cd_graph::built_in::{DATA, EMPTY};
@@ -34,7 +35,7 @@ use cd_typing::rule::Rule;
 /// `match`, which stands at this place.
 #[cycle(check)]
 pub(crate) fn check_match(
-    base: &Base<'_, '_>,
+    base: &Base<'_, '_, '_>,
     world: &mut World,
     locals: &[(Name, NodeId)],
     value: &Expr,
@@ -42,9 +43,9 @@ pub(crate) fn check_match(
     at: usize,
 ) -> Result<NodeId, CheckError>
     requires ready { IsReady base.now (graph_of world.old) locals.now }
-    requires value { IsSound (declarations_of base.now) (names_seen base.now locals.now)
+    requires value { IsSound (program_of base.now) (names_seen base.now locals.now)
         (plain value.now) }
-    requires branches { BranchesAreSound (declarations_of base.now) (names_seen base.now locals.now)
+    requires branches { BranchesAreSound (program_of base.now) (names_seen base.now locals.now)
         (plain_branches branches.now) }
     ensures gives { IfOk result (KindGives base.now (graph_of world.old) locals.now
         (graph_of world.new) (Match (plain value.now) (plain_branches branches.now))) }
@@ -62,7 +63,7 @@ pub(crate) fn check_match(
 // What branches give for what is in a node, where they have to take all of it.
 #[cycle(check)]
 fn check_covering(
-    base: &Base<'_, '_>,
+    base: &Base<'_, '_, '_>,
     world: &mut World,
     locals: &[(Name, NodeId)],
     matched: NodeId,
@@ -71,7 +72,7 @@ fn check_covering(
 ) -> Result<NodeId, CheckError>
     requires ready { IsReady base.now (graph_of world.old) locals.now }
     requires matched { matched.0 < length (graph_of world.old) }
-    requires branches { BranchesAreSound (declarations_of base.now) (names_seen base.now locals.now)
+    requires branches { BranchesAreSound (program_of base.now) (names_seen base.now locals.now)
         (plain_branches branches.now) }
     ensures gives { IfOk result (BranchesGive base.now (graph_of world.old) locals.now
         (graph_of world.new) matched (plain_branches branches.now)) }
@@ -83,8 +84,7 @@ fn check_covering(
     ensures fault { IfErr result (CoveringFails base.now (graph_of world.old) locals.now
         (table_of world.new) at matched (plain_branches branches.now)) }
 {
-    let sites = sites_of(base, world, branches)?;
-    let division = divide(base, world, matched, sites.as_slice())?;
+    let division = divide(base, world, matched, branches)?;
     cover(world, division.rest, at)?;
     let results = check_bodies(base, world, locals, branches, &division, None)?;
     Ok(union(base.alloc, world, results.as_slice())?)
@@ -94,7 +94,7 @@ fn check_covering(
 // the limit, if there is one.
 #[cycle(check)]
 fn check_some(
-    base: &Base<'_, '_>,
+    base: &Base<'_, '_, '_>,
     world: &mut World,
     locals: &[(Name, NodeId)],
     matched: NodeId,
@@ -103,7 +103,7 @@ fn check_some(
 ) -> Result<Vec<NodeId>, CheckError>
     requires ready { IsReady base.now (graph_of world.old) locals.now }
     requires matched { matched.0 < length (graph_of world.old) }
-    requires branches { BranchesAreSound (declarations_of base.now) (names_seen base.now locals.now)
+    requires branches { BranchesAreSound (program_of base.now) (names_seen base.now locals.now)
         (plain_branches branches.now) }
     requires limit { IsLimit (graph_of world.old) limit }
     ensures gives { IfOk result (λ results. BodiesGive base.now (graph_of world.old) locals.now
@@ -118,15 +118,14 @@ fn check_some(
     ensures fault { IfErr result (BranchesFail base.now (graph_of world.old) locals.now
         (table_of world.new) matched limit (plain_branches branches.now)) }
 {
-    let sites = sites_of(base, world, branches)?;
-    let division = divide(base, world, matched, sites.as_slice())?;
+    let division = divide(base, world, matched, branches)?;
     check_bodies(base, world, locals, branches, &division, limit)
 }
 
 /// `let`, which stands at this place.
 #[cycle(check)]
 pub(crate) fn check_let(
-    base: &Base<'_, '_>,
+    base: &Base<'_, '_, '_>,
     world: &mut World,
     locals: &[(Name, NodeId)],
     pattern: &Tree,
@@ -135,10 +134,10 @@ pub(crate) fn check_let(
     at: usize,
 ) -> Result<NodeId, CheckError>
     requires ready { IsReady base.now (graph_of world.old) locals.now }
-    requires pattern { IsSoundPattern (declarations_of base.now) (plain_tree pattern.now) }
-    requires value { IsSound (declarations_of base.now) (names_seen base.now locals.now)
+    requires pattern { IsPatternOf (program_of base.now) (plain_tree pattern.now) }
+    requires value { IsSound (program_of base.now) (names_seen base.now locals.now)
         (plain value.now) }
-    requires rest { IsSound (declarations_of base.now)
+    requires rest { IsSound (program_of base.now)
         (names_of (plain_tree pattern.now) ++ names_seen base.now locals.now) (plain rest.now) }
     ensures gives { IfOk result (KindGives base.now (graph_of world.old) locals.now
         (graph_of world.new)
@@ -151,13 +150,10 @@ pub(crate) fn check_let(
         (table_of world.new) at (Let (plain_tree pattern.now) (plain value.now) (plain rest.now))) }
 {
     let matched = check(base, world, locals, value)?;
-    let sited = with_site(base, world, pattern)?;
+    let sited = site_at(base, pattern);
     let left = remaining(base.alloc, world, matched, &sited.site)?;
     cover(world, left, at)?;
-    let coming = Coming {
-        sited: &sited,
-        matched,
-    };
+    let coming = Coming { sited, matched };
     match check_body(base, world, locals, coming, rest, None)? {
         Some(id) => Ok(id),
         None => Ok(EMPTY),
@@ -167,16 +163,16 @@ pub(crate) fn check_let(
 /// `try`.
 #[cycle(check)]
 pub(crate) fn check_try(
-    base: &Base<'_, '_>,
+    base: &Base<'_, '_, '_>,
     world: &mut World,
     locals: &[(Name, NodeId)],
     body: &Expr,
     branches: &Branches,
 ) -> Result<NodeId, CheckError>
     requires ready { IsReady base.now (graph_of world.old) locals.now }
-    requires body { IsSound (declarations_of base.now) (names_seen base.now locals.now)
+    requires body { IsSound (program_of base.now) (names_seen base.now locals.now)
         (plain body.now) }
-    requires branches { BranchesAreSound (declarations_of base.now) (names_seen base.now locals.now)
+    requires branches { BranchesAreSound (program_of base.now) (names_seen base.now locals.now)
         (plain_branches branches.now) }
     ensures gives { IfOk result (KindGives base.now (graph_of world.old) locals.now
         (graph_of world.new) (Try (plain body.now) (plain_branches branches.now))) }
@@ -196,7 +192,7 @@ pub(crate) fn check_try(
 /// `map`, which stands at this place.
 #[cycle(check)]
 pub(crate) fn check_map(
-    base: &Base<'_, '_>,
+    base: &Base<'_, '_, '_>,
     world: &mut World,
     locals: &[(Name, NodeId)],
     value: &Expr,
@@ -204,9 +200,9 @@ pub(crate) fn check_map(
     at: usize,
 ) -> Result<NodeId, CheckError>
     requires ready { IsReady base.now (graph_of world.old) locals.now }
-    requires value { IsSound (declarations_of base.now) (names_seen base.now locals.now)
+    requires value { IsSound (program_of base.now) (names_seen base.now locals.now)
         (plain value.now) }
-    requires branches { BranchesAreSound (declarations_of base.now) (names_seen base.now locals.now)
+    requires branches { BranchesAreSound (program_of base.now) (names_seen base.now locals.now)
         (plain_branches branches.now) }
     ensures gives { IfOk result (KindGives base.now (graph_of world.old) locals.now
         (graph_of world.new) (Map (plain value.now) (plain_branches branches.now))) }
@@ -228,16 +224,16 @@ pub(crate) fn check_map(
 /// `transform`.
 #[cycle(check)]
 pub(crate) fn check_transform(
-    base: &Base<'_, '_>,
+    base: &Base<'_, '_, '_>,
     world: &mut World,
     locals: &[(Name, NodeId)],
     value: &Expr,
     branches: &Branches,
 ) -> Result<NodeId, CheckError>
     requires ready { IsReady base.now (graph_of world.old) locals.now }
-    requires value { IsSound (declarations_of base.now) (names_seen base.now locals.now)
+    requires value { IsSound (program_of base.now) (names_seen base.now locals.now)
         (plain value.now) }
-    requires branches { BranchesAreSound (declarations_of base.now) (names_seen base.now locals.now)
+    requires branches { BranchesAreSound (program_of base.now) (names_seen base.now locals.now)
         (plain_branches branches.now) }
     ensures gives { IfOk result (KindGives base.now (graph_of world.old) locals.now
         (graph_of world.new) (Transform (plain value.now) (plain_branches branches.now))) }

@@ -9,7 +9,7 @@ ghost use Rattle.cd_check.specs.Inner.Giving.{KindGives, ArgumentsGive, Argument
 ghost use Rattle.cd_check.specs.Inner.Giving.{TailGives};
 ghost use Rattle.cd_check.specs.Inner.LeastNodes.{KindLeast, ArgumentsLeast, ArgumentLeast};
 ghost use Rattle.cd_check.specs.Inner.LeastNodes.{TailsLeast, TailLeast};
-ghost use Rattle.cd_check.specs.Inner.Ready.{IsReady, IsAfter, declarations_of, names_seen};
+ghost use Rattle.cd_check.specs.Inner.Ready.{IsReady, IsAfter, program_of, names_seen};
 ghost use Rattle.cd_check.specs.Inner.Sides.{IsMet};
 ghost use Rattle.cd_check.specs.Inner.SoundNames.{IsSound, AreSound, TailsAreSound, TailIsSound};
 ghost use Rattle.cd_check.specs.Inner.SoundNames.{HasFirst};
@@ -31,7 +31,7 @@ use cd_typing::rule::Rule;
 /// place.
 #[cycle(check)]
 pub(crate) fn check_apply(
-    base: &Base<'_, '_>,
+    base: &Base<'_, '_, '_>,
     world: &mut World,
     locals: &[(Name, NodeId)],
     exprs: &Exprs,
@@ -39,7 +39,7 @@ pub(crate) fn check_apply(
 ) -> Result<NodeId, CheckError>
     requires ready { IsReady base.now (graph_of world.old) locals.now }
     requires first { HasFirst (plain_exprs exprs.now) }
-    requires sound { AreSound (declarations_of base.now) (names_seen base.now locals.now)
+    requires sound { AreSound (program_of base.now) (names_seen base.now locals.now)
         (plain_exprs exprs.now) }
     ensures gives { IfOk result (KindGives base.now (graph_of world.old) locals.now
         (graph_of world.new) (Apply (plain_exprs exprs.now))) }
@@ -63,7 +63,7 @@ pub(crate) fn check_apply(
 // place, and what they give at the second one.
 #[cycle(check)]
 fn check_arguments(
-    base: &Base<'_, '_>,
+    base: &Base<'_, '_, '_>,
     world: &mut World,
     locals: &[(Name, NodeId)],
     function: NodeId,
@@ -73,7 +73,7 @@ fn check_arguments(
 ) -> Result<NodeId, CheckError>
     requires ready { IsReady base.now (graph_of world.old) locals.now }
     requires function { function.0 < length (graph_of world.old) }
-    requires sound { AreSound (declarations_of base.now) (names_seen base.now locals.now)
+    requires sound { AreSound (program_of base.now) (names_seen base.now locals.now)
         (exprs_of (map plain arguments.now)) }
     ensures gives { IfOk result (ArgumentsGive base.now (graph_of world.old) locals.now
         (graph_of world.new) function (exprs_of (map plain arguments.now))) }
@@ -96,7 +96,7 @@ fn check_arguments(
 // What functions of a type, which stand at this place, give for an argument.
 #[cycle(check)]
 fn check_argument(
-    base: &Base<'_, '_>,
+    base: &Base<'_, '_, '_>,
     world: &mut World,
     locals: &[(Name, NodeId)],
     function: NodeId,
@@ -105,7 +105,7 @@ fn check_argument(
 ) -> Result<NodeId, CheckError>
     requires ready { IsReady base.now (graph_of world.old) locals.now }
     requires function { function.0 < length (graph_of world.old) }
-    requires sound { IsSound (declarations_of base.now) (names_seen base.now locals.now)
+    requires sound { IsSound (program_of base.now) (names_seen base.now locals.now)
         (plain argument.now) }
     ensures gives { IfOk result (ArgumentGives base.now (graph_of world.old) locals.now
         (graph_of world.new) function (plain argument.now)) }
@@ -129,7 +129,7 @@ fn check_argument(
 /// Operators of one level. The chain stands at this place.
 #[cycle(check)]
 pub(crate) fn check_chain(
-    base: &Base<'_, '_>,
+    base: &Base<'_, '_, '_>,
     world: &mut World,
     locals: &[(Name, NodeId)],
     first: &Expr,
@@ -137,9 +137,9 @@ pub(crate) fn check_chain(
     at: usize,
 ) -> Result<NodeId, CheckError>
     requires ready { IsReady base.now (graph_of world.old) locals.now }
-    requires first { IsSound (declarations_of base.now) (names_seen base.now locals.now)
+    requires first { IsSound (program_of base.now) (names_seen base.now locals.now)
         (plain first.now) }
-    requires tails { TailsAreSound (declarations_of base.now) (names_seen base.now locals.now)
+    requires tails { TailsAreSound (program_of base.now) (names_seen base.now locals.now)
         (plain_tails tails.now) }
     ensures gives { IfOk result (KindGives base.now (graph_of world.old) locals.now
         (graph_of world.new) (Chain (plain first.now) (plain_tails tails.now))) }
@@ -158,7 +158,7 @@ pub(crate) fn check_chain(
 // at the second one.
 #[cycle(check)]
 fn check_tails(
-    base: &Base<'_, '_>,
+    base: &Base<'_, '_, '_>,
     world: &mut World,
     locals: &[(Name, NodeId)],
     first: NodeId,
@@ -168,7 +168,7 @@ fn check_tails(
 ) -> Result<NodeId, CheckError>
     requires ready { IsReady base.now (graph_of world.old) locals.now }
     requires first { first.0 < length (graph_of world.old) }
-    requires sound { TailsAreSound (declarations_of base.now) (names_seen base.now locals.now)
+    requires sound { TailsAreSound (program_of base.now) (names_seen base.now locals.now)
         (plain_tails tails.now) }
     ensures gives { IfOk result (TailsGive base.now (graph_of world.old) locals.now
         (graph_of world.new) first (plain_tails tails.now)) }
@@ -191,7 +191,7 @@ fn check_tails(
 // An operator after an operand of this type, which stands at this place.
 #[cycle(check)]
 fn check_tail(
-    base: &Base<'_, '_>,
+    base: &Base<'_, '_, '_>,
     world: &mut World,
     locals: &[(Name, NodeId)],
     first: NodeId,
@@ -200,7 +200,7 @@ fn check_tail(
 ) -> Result<NodeId, CheckError>
     requires ready { IsReady base.now (graph_of world.old) locals.now }
     requires first { first.0 < length (graph_of world.old) }
-    requires sound { TailIsSound (declarations_of base.now) (names_seen base.now locals.now)
+    requires sound { TailIsSound (program_of base.now) (names_seen base.now locals.now)
         (plain_tail tail.now) }
     ensures gives { IfOk result (TailGives base.now (graph_of world.old) locals.now
         (graph_of world.new) first (plain_tail tail.now)) }
@@ -229,7 +229,7 @@ fn check_tail(
 // An operator between two operands, both of which are met.
 #[cycle(check)]
 fn check_operand(
-    base: &Base<'_, '_>,
+    base: &Base<'_, '_, '_>,
     world: &mut World,
     locals: &[(Name, NodeId)],
     first: NodeId,
@@ -239,7 +239,7 @@ fn check_operand(
 ) -> Result<NodeId, CheckError>
     requires ready { IsReady base.now (graph_of world.old) locals.now }
     requires first { first.0 < length (graph_of world.old) }
-    requires sound { IsSound (declarations_of base.now) (names_seen base.now locals.now)
+    requires sound { IsSound (program_of base.now) (names_seen base.now locals.now)
         (plain expr.now) }
     requires met { IsMet op }
     ensures gives { IfOk result (TailGives base.now (graph_of world.old) locals.now

@@ -6,7 +6,7 @@ ghost use Rattle.cd_empty.specs.Seen.{graph_of, table_of};
 ghost use Rattle.cd_check.specs.Inner.Failing.{ExprFails, KindFails, FormFails};
 ghost use Rattle.cd_check.specs.Inner.Giving.{ExprGives, KindGives};
 ghost use Rattle.cd_check.specs.Inner.LeastNodes.{ExprLeast, KindLeast};
-ghost use Rattle.cd_check.specs.Inner.Ready.{IsReady, IsAfter, declarations_of, names_seen};
+ghost use Rattle.cd_check.specs.Inner.Ready.{IsReady, IsAfter, program_of, names_seen};
 ghost use Rattle.cd_check.specs.Inner.SoundNames.{IsSound, KindIsSound};
 
 use crate::base::Base;
@@ -28,13 +28,13 @@ use cd_syntax::name::Name;
 /// The node of the type of an expression.
 #[cycle(check)]
 pub(crate) fn check(
-    base: &Base<'_, '_>,
+    base: &Base<'_, '_, '_>,
     world: &mut World,
     locals: &[(Name, NodeId)],
     expr: &Expr,
 ) -> Result<NodeId, CheckError>
     requires ready { IsReady base.now (graph_of world.old) locals.now }
-    requires sound { IsSound (declarations_of base.now) (names_seen base.now locals.now)
+    requires sound { IsSound (program_of base.now) (names_seen base.now locals.now)
         (plain expr.now) }
     ensures gives { IfOk result (ExprGives base.now (graph_of world.old) locals.now
         (graph_of world.new) (plain expr.now)) }
@@ -51,14 +51,14 @@ pub(crate) fn check(
 // That of what an expression is, which stands at this place.
 #[cycle(check)]
 fn check_kind(
-    base: &Base<'_, '_>,
+    base: &Base<'_, '_, '_>,
     world: &mut World,
     locals: &[(Name, NodeId)],
     kind: &ExprKind,
     at: usize,
 ) -> Result<NodeId, CheckError>
     requires ready { IsReady base.now (graph_of world.old) locals.now }
-    requires sound { KindIsSound (declarations_of base.now) (names_seen base.now locals.now)
+    requires sound { KindIsSound (program_of base.now) (names_seen base.now locals.now)
         (plain_kind kind.now) }
     ensures gives { IfOk result (KindGives base.now (graph_of world.old) locals.now
         (graph_of world.new) (plain_kind kind.now)) }
@@ -103,14 +103,14 @@ fn check_kind(
 // A word before an operand.
 #[cycle(check)]
 fn check_call(
-    base: &Base<'_, '_>,
+    base: &Base<'_, '_, '_>,
     world: &mut World,
     locals: &[(Name, NodeId)],
     word: BuiltIn,
     operand: &Expr,
 ) -> Result<NodeId, CheckError>
     requires ready { IsReady base.now (graph_of world.old) locals.now }
-    requires sound { IsSound (declarations_of base.now) (names_seen base.now locals.now)
+    requires sound { IsSound (program_of base.now) (names_seen base.now locals.now)
         (plain operand.now) }
     ensures gives { IfOk result (KindGives base.now (graph_of world.old) locals.now
         (graph_of world.new) (Call word (plain operand.now))) }

@@ -1,25 +1,24 @@
 //! Functions.
-ghost use Rattle.std.specs.Prelude.{◌≡◌, ◌<◌, map, length, IfOk, IfErr, OnOk};
+ghost use Rattle.std.specs.Prelude.{◌<◌, length, IfOk, IfErr, OnOk};
 ghost use Rattle.cd_program.specs.Expr.{Function};
 ghost use Rattle.cd_program.specs.PlainExpr.{plain_function, plain_branches};
-ghost use Rattle.cd_names.specs.ProgramFaults.{patterns};
 ghost use Rattle.cd_empty.specs.Seen.{graph_of, table_of};
 ghost use Rattle.cd_check.specs.Inner.Failing.{FormFails, PromiseFails, ArrowFails};
-ghost use Rattle.cd_check.specs.Inner.Divided.{AreSited, sited_pattern};
 ghost use Rattle.cd_check.specs.Inner.Giving.{KindGives, ArrowKept, PromiseKept};
 ghost use Rattle.cd_check.specs.Inner.Promises.{HasPromise};
 ghost use Rattle.cd_check.specs.Inner.LeastNodes.{KindLeast};
-ghost use Rattle.cd_check.specs.Inner.Ready.{IsReady, IsAfter, declarations_of, names_seen, scope_of};
+ghost use Rattle.cd_check.specs.Inner.Ready.{IsReady, IsAfter, program_of, names_seen, scope_of};
 ghost use Rattle.cd_check.specs.Inner.SoundNames.{BranchesAreSound, FunctionIsSound};
 
 use crate::base::Base;
 use crate::bodies::{Limit, check_bodies};
 use crate::fault::CheckError;
-use crate::interface::{Promise, promise_of};
 use crate::locals::with_own_name;
-use crate::sites::{Sited, cover, divide, sites_of};
+use crate::nodes::nodes_of;
+use crate::sites::{cover, divide};
 use cd_empty::World;
 use cd_program::expr::{Branches, FunctionTree};
+use cd_resolved::FunctionNodes;
 use cd_sets::node_id::NodeId;
 use cd_syntax::name::Name;
 use cd_typing::rule::Rule;
@@ -27,13 +26,13 @@ use cd_typing::rule::Rule;
 /// The type of a function: that of its interface, where its branches keep what that promises.
 #[cycle(check)]
 pub(crate) fn check_function(
-    base: &Base<'_, '_>,
+    base: &Base<'_, '_, '_>,
     world: &mut World,
     locals: &[(Name, NodeId)],
     function: &FunctionTree,
 ) -> Result<NodeId, CheckError>
     requires ready { IsReady base.now (graph_of world.old) locals.now }
-    requires sound { FunctionIsSound (declarations_of base.now) (names_seen base.now locals.now)
+    requires sound { FunctionIsSound (program_of base.now) (names_seen base.now locals.now)
         (plain_function function.now) }
     ensures gives { IfOk result (KindGives base.now (graph_of world.old) locals.now
         (graph_of world.new) (Function (plain_function function.now))) }
@@ -44,44 +43,41 @@ pub(crate) fn check_function(
     ensures fault { IfErr result (FormFails base.now (graph_of world.old) locals.now
         (table_of world.new) (Function (plain_function function.now))) }
 {
-    let promise = promise_of(base.alloc, world, base.names, &function.interface)?;
-    check_promise(base, world, locals, function, &promise)?;
-    Ok(promise.whole)
+    let nodes = nodes_of(base, function);
+    check_promise(base, world, locals, function, nodes)?;
+    Ok(nodes.whole)
 }
 
 /// Checks the branches of a function for each of its arrows, where its own name has the type of its
 /// interface.
 #[cycle(check)]
 pub(crate) fn check_promise(
-    base: &Base<'_, '_>,
+    base: &Base<'_, '_, '_>,
     world: &mut World,
     locals: &[(Name, NodeId)],
     function: &FunctionTree,
-    promise: &Promise,
+    nodes: &FunctionNodes<'_>,
 ) -> Result<(), CheckError>
     requires ready { IsReady base.now (graph_of world.old) locals.now }
-    requires sound { FunctionIsSound (declarations_of base.now) (names_seen base.now locals.now)
+    requires sound { FunctionIsSound (program_of base.now) (names_seen base.now locals.now)
         (plain_function function.now) }
     requires promise { HasPromise (scope_of base.now) (graph_of world.old)
-        (plain_function function.now) promise.now.arrows.items promise.now.whole }
+        (plain_function function.now) nodes.now.arrows.items nodes.now.whole }
     ensures kept { OnOk result (PromiseKept base.now (graph_of world.old) locals.now
-        (plain_function function.now) promise.now) }
+        (plain_function function.now) nodes.now) }
     ensures after { OnOk result
         (IsAfter base.now locals.now (graph_of world.old) (graph_of world.new)) }
     ensures fault { IfErr result (PromiseFails base.now (graph_of world.old) locals.now
         (table_of world.new) (plain_function function.now)) }
 {
-    let sites = sites_of(base, world, &function.branches)?;
-    let inner = with_own_name(base.alloc, &function.name, promise.whole, locals)?;
-    for (argument, result) in promise.arrows.as_slice() {
+    let inner = with_own_name(base.alloc, &function.name, nodes.whole, locals)?;
+    for (argument, result) in nodes.arrows.as_slice() {
         let arrow = (*argument, *result);
-        let (branches, sites) = (&function.branches, sites.as_slice());
         check_arrow(
             base,
             world,
             inner.as_slice(),
-            branches,
-            sites,
+            &function.branches,
             arrow,
             function.at,
         )?;
@@ -93,19 +89,16 @@ pub(crate) fn check_promise(
 // The function stands at this place.
 #[cycle(check)]
 fn check_arrow(
-    base: &Base<'_, '_>,
+    base: &Base<'_, '_, '_>,
     world: &mut World,
     locals: &[(Name, NodeId)],
     branches: &Branches,
-    sites: &[Sited<'_>],
     arrow: (NodeId, NodeId),
     at: usize,
 ) -> Result<(), CheckError>
     requires ready { IsReady base.now (graph_of world.old) locals.now }
-    requires sound { BranchesAreSound (declarations_of base.now) (names_seen base.now locals.now)
+    requires sound { BranchesAreSound (program_of base.now) (names_seen base.now locals.now)
         (plain_branches branches.now) }
-    requires sited { AreSited (graph_of world.old) (scope_of base.now) sites.now }
-    requires patterns { map sited_pattern sites.now ≡ patterns (plain_branches branches.now) }
     requires argument { arrow.0.0 < length (graph_of world.old) }
     requires result { arrow.1.0 < length (graph_of world.old) }
     ensures kept { OnOk result (ArrowKept base.now (graph_of world.old) locals.now
@@ -116,7 +109,7 @@ fn check_arrow(
         (table_of world.new) at (plain_branches branches.now) arrow) }
 {
     let (argument, result) = arrow;
-    let division = divide(base, world, argument, sites)?;
+    let division = divide(base, world, argument, branches)?;
     cover(world, division.rest, at)?;
     let limit = Limit {
         node: result,

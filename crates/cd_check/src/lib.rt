@@ -9,14 +9,16 @@ mod constant;
 mod expr;
 mod fault;
 mod function;
-mod interface;
 mod locals;
 mod needing;
+mod nodes;
 mod operands;
 mod program;
 mod sites;
 mod test;
 mod variable;
+mod world;
 
 pub use fault::{CheckError, TypeFault};
 pub use program::check_types;
+pub use world::world_of;

@@ -10,7 +10,7 @@ ghost use Rattle.cd_check.specs.Inner.Giving.{KindGives, OperandsGive, ItemsGive
 ghost use Rattle.cd_check.specs.Inner.Giving.{FieldsGive};
 ghost use Rattle.cd_check.specs.Inner.LeastNodes.{KindLeast, OperandsLeast, ItemsLeast, ItemLeast};
 ghost use Rattle.cd_check.specs.Inner.LeastNodes.{FieldsLeast};
-ghost use Rattle.cd_check.specs.Inner.Ready.{IsReady, IsAfter, declarations_of, names_seen};
+ghost use Rattle.cd_check.specs.Inner.Ready.{IsReady, IsAfter, program_of, names_seen};
 ghost use Rattle.cd_check.specs.Inner.SoundNames.{IsSound, AreSound, ItemsAreSound, ItemIsSound};
 ghost use Rattle.cd_check.specs.Inner.SoundNames.{FieldsAreSound};
 
@@ -29,13 +29,13 @@ use cd_typing::rule::Rule;
 /// A tuple.
 #[cycle(check)]
 pub(crate) fn check_tuple(
-    base: &Base<'_, '_>,
+    base: &Base<'_, '_, '_>,
     world: &mut World,
     locals: &[(Name, NodeId)],
     exprs: &Exprs,
 ) -> Result<NodeId, CheckError>
     requires ready { IsReady base.now (graph_of world.old) locals.now }
-    requires sound { AreSound (declarations_of base.now) (names_seen base.now locals.now)
+    requires sound { AreSound (program_of base.now) (names_seen base.now locals.now)
         (plain_exprs exprs.now) }
     ensures gives { IfOk result (KindGives base.now (graph_of world.old) locals.now
         (graph_of world.new) (Tuple (plain_exprs exprs.now))) }
@@ -53,13 +53,13 @@ pub(crate) fn check_tuple(
 // Expressions in turn.
 #[cycle(check)]
 fn check_exprs(
-    base: &Base<'_, '_>,
+    base: &Base<'_, '_, '_>,
     world: &mut World,
     locals: &[(Name, NodeId)],
     exprs: &Exprs,
 ) -> Result<Vec<NodeId>, CheckError>
     requires ready { IsReady base.now (graph_of world.old) locals.now }
-    requires sound { AreSound (declarations_of base.now) (names_seen base.now locals.now)
+    requires sound { AreSound (program_of base.now) (names_seen base.now locals.now)
         (plain_exprs exprs.now) }
     ensures gives { IfOk result (λ parts. OperandsGive base.now (graph_of world.old) locals.now
         (graph_of world.new) (plain_exprs exprs.now) parts.items) }
@@ -81,13 +81,13 @@ fn check_exprs(
 /// A sequence.
 #[cycle(check)]
 pub(crate) fn check_sequence(
-    base: &Base<'_, '_>,
+    base: &Base<'_, '_, '_>,
     world: &mut World,
     locals: &[(Name, NodeId)],
     items: &Items,
 ) -> Result<NodeId, CheckError>
     requires ready { IsReady base.now (graph_of world.old) locals.now }
-    requires sound { ItemsAreSound (declarations_of base.now) (names_seen base.now locals.now)
+    requires sound { ItemsAreSound (program_of base.now) (names_seen base.now locals.now)
         (plain_items items.now) }
     ensures gives { IfOk result (KindGives base.now (graph_of world.old) locals.now
         (graph_of world.new) (Sequence (plain_items items.now))) }
@@ -105,13 +105,13 @@ pub(crate) fn check_sequence(
 // The items that are expressions, in turn.
 #[cycle(check)]
 fn check_items(
-    base: &Base<'_, '_>,
+    base: &Base<'_, '_, '_>,
     world: &mut World,
     locals: &[(Name, NodeId)],
     items: &Items,
 ) -> Result<Vec<NodeId>, CheckError>
     requires ready { IsReady base.now (graph_of world.old) locals.now }
-    requires sound { ItemsAreSound (declarations_of base.now) (names_seen base.now locals.now)
+    requires sound { ItemsAreSound (program_of base.now) (names_seen base.now locals.now)
         (plain_items items.now) }
     ensures gives { IfOk result (λ parts. ItemsGive base.now (graph_of world.old) locals.now
         (graph_of world.new) (plain_items items.now) parts.items) }
@@ -134,13 +134,13 @@ fn check_items(
 // One item, if it is an expression.
 #[cycle(check)]
 fn check_item(
-    base: &Base<'_, '_>,
+    base: &Base<'_, '_, '_>,
     world: &mut World,
     locals: &[(Name, NodeId)],
     item: &Item,
 ) -> Result<Option<NodeId>, CheckError>
     requires ready { IsReady base.now (graph_of world.old) locals.now }
-    requires sound { ItemIsSound (declarations_of base.now) (names_seen base.now locals.now)
+    requires sound { ItemIsSound (program_of base.now) (names_seen base.now locals.now)
         (plain_item item.now) }
     ensures gives { IfOk result (ItemGives base.now (graph_of world.old) locals.now
         (graph_of world.new) (plain_item item.now)) }
@@ -171,13 +171,13 @@ fn check_item(
 /// A record.
 #[cycle(check)]
 pub(crate) fn check_record(
-    base: &Base<'_, '_>,
+    base: &Base<'_, '_, '_>,
     world: &mut World,
     locals: &[(Name, NodeId)],
     fields: &FieldExprs,
 ) -> Result<NodeId, CheckError>
     requires ready { IsReady base.now (graph_of world.old) locals.now }
-    requires sound { FieldsAreSound (declarations_of base.now) (names_seen base.now locals.now)
+    requires sound { FieldsAreSound (program_of base.now) (names_seen base.now locals.now)
         (plain_fields fields.now) }
     ensures gives { IfOk result (KindGives base.now (graph_of world.old) locals.now
         (graph_of world.new) (Record (plain_fields fields.now))) }
@@ -195,13 +195,13 @@ pub(crate) fn check_record(
 // What is in fields, in turn.
 #[cycle(check)]
 fn check_fields(
-    base: &Base<'_, '_>,
+    base: &Base<'_, '_, '_>,
     world: &mut World,
     locals: &[(Name, NodeId)],
     fields: &FieldExprs,
 ) -> Result<Vec<NodeId>, CheckError>
     requires ready { IsReady base.now (graph_of world.old) locals.now }
-    requires sound { FieldsAreSound (declarations_of base.now) (names_seen base.now locals.now)
+    requires sound { FieldsAreSound (program_of base.now) (names_seen base.now locals.now)
         (plain_fields fields.now) }
     ensures gives { IfOk result (λ parts. FieldsGive base.now (graph_of world.old) locals.now
         (graph_of world.new) (plain_fields fields.now) parts.items) }
@@ -223,7 +223,7 @@ fn check_fields(
 /// An XML element.
 #[cycle(check)]
 pub(crate) fn check_xml(
-    base: &Base<'_, '_>,
+    base: &Base<'_, '_, '_>,
     world: &mut World,
     locals: &[(Name, NodeId)],
     tag: &Expr,
@@ -231,11 +231,11 @@ pub(crate) fn check_xml(
     content: &Expr,
 ) -> Result<NodeId, CheckError>
     requires ready { IsReady base.now (graph_of world.old) locals.now }
-    requires tag { IsSound (declarations_of base.now) (names_seen base.now locals.now)
+    requires tag { IsSound (program_of base.now) (names_seen base.now locals.now)
         (plain tag.now) }
-    requires attributes { IsSound (declarations_of base.now) (names_seen base.now locals.now)
+    requires attributes { IsSound (program_of base.now) (names_seen base.now locals.now)
         (plain attributes.now) }
-    requires content { IsSound (declarations_of base.now) (names_seen base.now locals.now)
+    requires content { IsSound (program_of base.now) (names_seen base.now locals.now)
         (plain content.now) }
     ensures gives { IfOk result (KindGives base.now (graph_of world.old) locals.now
         (graph_of world.new) (Xml (plain tag.now) (plain attributes.now) (plain content.now))) }

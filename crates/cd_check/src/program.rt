@@ -1,85 +1,82 @@
 //! The types of programs.
-ghost use Rattle.std.specs.Prelude.{◌≡◌, ◌<◌, [], ◌∷◌, map, length, IfOk, IfErr, OnOk};
+ghost use Rattle.std.specs.Prelude.{◌≡◌, ◌<◌, ◌++◌, List, [], map, length, IfOk, IfErr, OnOk};
 ghost use Rattle.std.specs.Str.{chars};
 ghost use Rattle.cd_syntax.specs.Name.{IsLabel};
 ghost use Rattle.cd_model.specs.AllOf.{AllOf};
 ghost use Rattle.cd_model.specs.Formula.{IsGraph};
 ghost use Rattle.cd_program.specs.PlainExpr.{plain_function};
-ghost use Rattle.cd_program.specs.PlainProgram.{plain_program};
-ghost use Rattle.cd_program.specs.WellMade.{IsWellMadeProgram};
-ghost use Rattle.cd_resolve.specs.Faults.{Fault, IsFaultOfDeclarations};
-ghost use Rattle.cd_resolve.specs.Named.{AreNamed, plain_names, declared_by};
-ghost use Rattle.cd_names.specs.ProgramFaults.{IsFaultOfProgram};
 ghost use Rattle.cd_empty.specs.Growth.{Grows};
 ghost use Rattle.cd_empty.specs.Seen.{graph_of, table_of};
-ghost use Rattle.cd_typing.specs.Typed.{IsTyped};
+ghost use Rattle.cd_typing.specs.Typed.{IsTyped, scope_of as scope_of_program};
 ghost use Rattle.cd_least.specs.ProgramFaults.{ProgramFault};
+ghost use Rattle.cd_placed.specs.Patterns.{all_patterns};
+ghost use Rattle.cd_resolved.specs.Resolved.{IsResolved, Extends, function_of, function_nodes};
+ghost use Rattle.cd_resolved.specs.Resolved.{program_of as program_in};
+ghost use Rattle.cd_resolved.specs.declared.function_nodes.FunctionNodes.{FunctionNodes as Nodes};
 ghost use Rattle.cd_check.specs.Faults.{Reports};
+ghost use Rattle.cd_check.specs.Inner.Divided.{AreSited, sited_pattern};
 ghost use Rattle.cd_check.specs.Inner.Environment.{AreNodesOf, declared};
 ghost use Rattle.cd_check.specs.Inner.Giving.{PromiseKept};
 ghost use Rattle.cd_check.specs.Inner.FunctionNames.{function_names, is_main};
-ghost use Rattle.cd_check.specs.Inner.Programs.{IsPromised, function_of};
-ghost use Rattle.cd_check.specs.Inner.Programs.{MainGives, ResultsAreData, SignaturesAreSound};
+ghost use Rattle.cd_check.specs.Inner.Programs.{MainGives, ResultsAreData};
 ghost use Rattle.cd_check.specs.Inner.Programs.{IsSoundFunction, HasArrows, IsAtomNode};
 ghost use Rattle.cd_check.specs.Inner.Programs.{FunctionsFail, MainsFault, ResultsFault};
-ghost use Rattle.cd_check.specs.Inner.Promises.{ArePairs};
-ghost use Rattle.cd_check.specs.Inner.Ready.{IsReady, IsAfter, scope_of, declarations_of, names_seen};
+ghost use Rattle.cd_check.specs.Inner.Promises.{ArePairs, IsPromised};
+ghost use Rattle.cd_check.specs.Inner.Ready.{IsReady, IsAfter, scope_of, program_of, names_seen};
 
 use crate::base::Base;
 use crate::fault::CheckError;
 use crate::function::check_promise;
-use crate::interface::{Promise, promise_of};
 use crate::needing::need_at;
+use crate::sites::{Sited, sites_of};
 use cd_empty::World;
 use cd_forms::constant;
 use cd_graph::built_in::DATA;
 use cd_operators::tools::put_tools;
 use cd_program::expr::FunctionTree;
-use cd_program::program::Program;
-use cd_resolve::{NameIndex, Names};
+use cd_resolve::NameIndex;
+use cd_resolved::{FunctionNodes, Resolved};
 use cd_sets::node_id::NodeId;
 use cd_syntax::constant::Constant;
 use cd_syntax::name::Name;
 use cd_typing::rule::Rule;
 use std::alloc::{AllocError, Global};
 
-/// Whether a program has types. Its names are sound, and the nodes of its declared types are there.
+/// Whether a program has types, in a world whose graph begins with its nodes.
 ///
 /// # Errors
 ///
 /// A rule that is not met: in the order of the text, but that the operands of a form come before
 /// the form itself. Or want of memory.
-pub fn check_types<'t>(
+pub fn check_types(
     alloc: Global,
     world: &mut World,
-    names: &Names<'t>,
-    program: &'t Program,
+    program: &Resolved<'_>,
 ) -> Result<(), CheckError>
-    requires named { AreNamed (graph_of world.old) (plain_names names.now) }
-    requires declared { declared_by names.now ≡ (plain_program program.now).types }
-    requires well_made { IsWellMadeProgram (plain_program program.now) }
-    requires sound { (fault : Fault) → IsFaultOfProgram (plain_program program.now) fault → ⊥ }
-    ensures typed { OnOk result (IsTyped (plain_program program.now)) }
+    requires resolved { IsResolved program.now }
+    requires begins { Extends program.now (graph_of world.old) }
+    ensures typed { OnOk result (IsTyped (program_in program.now)) }
+    ensures begins { OnOk result (Extends program.now (graph_of world.new)) }
     ensures fault { IfErr result
-        (Reports (table_of world.new) (ProgramFault (plain_program program.now))) }
+        (Reports (table_of world.new) (ProgramFault (program_in program.now))) }
 {
     // The contract of this call says that the graph is sound and begins with the built-in nodes.
     world.graph();
-    let functions = program.functions.items();
-    let declared = declare(alloc, functions)?;
-    let promised = promises_of(alloc, world, names, functions)?;
-    let interfaces = interfaces_of(alloc, promised.as_slice())?;
-    let base = base_of(alloc, world, names, &declared, interfaces.as_slice())?;
-    check_functions(&base, world, promised.as_slice())?;
-    check_main(world, promised.as_slice())?;
+    let declared = declare(alloc, program.program().functions.items())?;
+    let functions = declared_nodes(program);
+    let interfaces = interfaces_of(alloc, functions)?;
+    let sites = sites_of(alloc, world, program)?;
+    let base = base_of(
+        alloc,
+        world,
+        program,
+        sites.as_slice(),
+        &declared,
+        interfaces.as_slice(),
+    )?;
+    check_functions(&base, world, functions)?;
+    check_main(world, functions)?;
     Ok(())
-}
-
-/// A function that is declared, and what it promises.
-#[derive(Drop)]
-struct Promised<'p> {
-    function: &'p FunctionTree,
-    promise: Promise,
 }
 
 // The names of the functions.
@@ -96,59 +93,46 @@ fn declare<'t>(alloc: Global, functions: &'t [FunctionTree]) -> Result<NameIndex
     Ok(names)
 }
 
-// What the functions promise, one by one.
-fn promises_of<'p>(
-    alloc: Global,
-    world: &mut World,
-    names: &Names<'_>,
-    functions: &'p [FunctionTree],
-) -> Result<Vec<Promised<'p>>, AllocError>
-    requires graph { IsGraph (graph_of world.old) }
-    requires named { AreNamed (graph_of world.old) (plain_names names.now) }
-    requires names_sound { (fault : Fault)
-        → IsFaultOfDeclarations (declared_by names.now) fault → ⊥ }
-    requires sound { AllOf (SignaturesAreSound (declared_by names.now))
-        (map plain_function functions.now) }
-    ensures promised { IfOk result (λ promised.
-        AllOf (IsPromised (declared_by names.now ∷ []) (graph_of world.new)) promised.items) }
-    ensures functions { IfOk result (λ promised.
-        map function_of promised.items ≡ map plain_function functions.now) }
-    ensures sound { IsGraph (graph_of world.new) }
-    ensures grows { Grows world.old world.new }
+// The functions that are declared, with their nodes: they are the first of all.
+fn declared_nodes<'b, 't>(program: &'b Resolved<'t>) -> &'b [FunctionNodes<'t>]
+    requires { IsResolved program.now }
+    ensures functions { map function_of result.now ≡ (program_in program.now).functions }
+    ensures first { (rest : List Nodes) × (function_nodes program.now ≡ result.now ++ rest) }
 {
-    let mut promised = Vec::new(alloc);
-    for function in functions {
-        let promise = promise_of(alloc, world, names, &function.interface)?;
-        promised.push(Promised { function, promise })?;
-    }
-    Ok(promised)
+    let count = program.program().functions.items().len();
+    &program.interfaces()[..count]
 }
 
 // The nodes of the interfaces, one by one.
-fn interfaces_of(alloc: Global, promised: &[Promised<'_>]) -> Result<Vec<NodeId>, AllocError>
-    ensures { IfOk result (λ ids. ids.items ≡ map (λ one. one.promise.whole) promised.now) }
+fn interfaces_of(alloc: Global, functions: &[FunctionNodes<'_>]) -> Result<Vec<NodeId>, AllocError>
+    ensures { IfOk result (λ ids. ids.items ≡ map (λ one. one.whole) functions.now) }
 {
     let mut ids = Vec::new(alloc);
-    for one in promised {
-        ids.push(one.promise.whole)?;
+    for one in functions {
+        ids.push(one.whole)?;
     }
     Ok(ids)
 }
 
-// What the check of functions goes by, where these have names and nodes.
-fn base_of<'b, 't>(
+// What the check of functions goes by, where these have names and nodes, and the patterns their
+// sites.
+fn base_of<'b, 'k, 't>(
     alloc: Global,
     world: &mut World,
-    names: &'b Names<'t>,
+    resolved: &'k Resolved<'t>,
+    sites: &'b [Sited<'k, 't>],
     functions: &'b NameIndex<'t>,
     interfaces: &'b [NodeId],
-) -> Result<Base<'b, 't>, AllocError>
+) -> Result<Base<'b, 'k, 't>, AllocError>
     requires nodes { AreNodesOf (graph_of world.old) (declared functions.now interfaces.now) }
-    requires named { AreNamed (graph_of world.old) (plain_names names.now) }
-    requires names_sound { (fault : Fault)
-        → IsFaultOfDeclarations (declared_by names.now) fault → ⊥ }
+    requires resolved { IsResolved resolved.now }
+    requires patterns { map sited_pattern sites.now ≡ all_patterns (program_in resolved.now) }
+    requires sited { AreSited (graph_of world.old) (scope_of_program (program_in resolved.now))
+        sites.now }
+    requires promised { AllOf (IsPromised (scope_of_program (program_in resolved.now))
+        (graph_of world.old)) (function_nodes resolved.now) }
     ensures ready { IfOk result (λ base. IsReady base (graph_of world.new) []) }
-    ensures names { IfOk result (λ base. base.names.now ≡ names.now) }
+    ensures resolved { IfOk result (λ base. base.resolved.now ≡ resolved.now) }
     ensures functions { IfOk result (λ base. base.functions.now ≡ functions.now) }
     ensures interfaces { IfOk result (λ base. base.interfaces.now ≡ interfaces.now) }
     ensures sound { IsGraph (graph_of world.new) }
@@ -161,7 +145,8 @@ fn base_of<'b, 't>(
     let no = truth(alloc, world, "false")?;
     Ok(Base {
         alloc,
-        names,
+        resolved,
+        sites,
         functions,
         interfaces,
         tools,
@@ -186,38 +171,38 @@ fn truth(alloc: Global, world: &mut World, name: &str) -> Result<NodeId, AllocEr
 
 // Whether each function keeps what it promises.
 fn check_functions(
-    base: &Base<'_, '_>,
+    base: &Base<'_, '_, '_>,
     world: &mut World,
-    promised: &[Promised<'_>],
+    functions: &[FunctionNodes<'_>],
 ) -> Result<(), CheckError>
     requires ready { IsReady base.now (graph_of world.old) [] }
-    requires promised { AllOf (IsPromised (scope_of base.now) (graph_of world.old)) promised.now }
-    requires sound { AllOf (IsSoundFunction (declarations_of base.now) (names_seen base.now []))
-        promised.now }
+    requires promised { AllOf (IsPromised (scope_of base.now) (graph_of world.old)) functions.now }
+    requires sound { AllOf (IsSoundFunction (program_of base.now) (names_seen base.now []))
+        functions.now }
     ensures kept { OnOk result (AllOf (λ one. PromiseKept base.now (graph_of world.old) []
-        (function_of one) one.promise) promised.now) }
+        (function_of one) one) functions.now) }
     ensures after { OnOk result
         (IsAfter base.now [] (graph_of world.old) (graph_of world.new)) }
     ensures fault { IfErr result (FunctionsFail base.now (graph_of world.old) (table_of world.new)
-        promised.now) }
+        functions.now) }
 {
-    for one in promised {
-        check_promise(base, world, &[], one.function, &one.promise)?;
+    for one in functions {
+        check_promise(base, world, &[], one.function, one)?;
     }
     Ok(())
 }
 
 // Whether what `main` gives is data.
-fn check_main(world: &mut World, promised: &[Promised<'_>]) -> Result<(), CheckError>
-    requires { AllOf (HasArrows (graph_of world.old)) promised.now }
-    ensures main { OnOk result (AllOf (MainGives (graph_of world.old)) promised.now) }
+fn check_main(world: &mut World, functions: &[FunctionNodes<'_>]) -> Result<(), CheckError>
+    requires { AllOf (HasArrows (graph_of world.old)) functions.now }
+    ensures main { OnOk result (AllOf (MainGives (graph_of world.old)) functions.now) }
     ensures fault { IfErr result
-        (Reports (table_of world.new) (MainsFault (graph_of world.old) promised.now)) }
+        (Reports (table_of world.new) (MainsFault (graph_of world.old) functions.now)) }
     ensures graph { graph_of world.new ≡ graph_of world.old }
 {
-    for one in promised {
+    for one in functions {
         if is_main(one.function) {
-            check_results(world, one.promise.arrows.as_slice(), one.function.at)?;
+            check_results(world, one.arrows.as_slice(), one.function.at)?;
         }
     }
     Ok(())

@@ -9,7 +9,7 @@ ghost use Rattle.cd_empty.specs.Seen.{graph_of, table_of};
 ghost use Rattle.cd_check.specs.Inner.Failing.{FormFails, TailFails, SideFails};
 ghost use Rattle.cd_check.specs.Inner.Giving.{KindGives, TailGives, SideGives};
 ghost use Rattle.cd_check.specs.Inner.LeastNodes.{KindLeast, TailLeast, SideLeast};
-ghost use Rattle.cd_check.specs.Inner.Ready.{IsReady, IsAfter, declarations_of, names_seen};
+ghost use Rattle.cd_check.specs.Inner.Ready.{IsReady, IsAfter, program_of, names_seen};
 ghost use Rattle.cd_check.specs.Inner.Sides.{short_op, truth_node, AreDisjoint, IfSome, HoldsSome};
 ghost use Rattle.cd_check.specs.Inner.Sides.{MaySkip, AreTogether, IsInEither};
 ghost use Rattle.cd_check.specs.Inner.SoundNames.{IsSound};
@@ -32,7 +32,7 @@ use std::alloc::AllocError;
 /// The second expression where the first may be true, or the third where it may be false.
 #[cycle(check)]
 pub(crate) fn check_if(
-    base: &Base<'_, '_>,
+    base: &Base<'_, '_, '_>,
     world: &mut World,
     locals: &[(Name, NodeId)],
     condition: &Expr,
@@ -40,11 +40,11 @@ pub(crate) fn check_if(
     else_one: &Expr,
 ) -> Result<NodeId, CheckError>
     requires ready { IsReady base.now (graph_of world.old) locals.now }
-    requires condition { IsSound (declarations_of base.now) (names_seen base.now locals.now)
+    requires condition { IsSound (program_of base.now) (names_seen base.now locals.now)
         (plain condition.now) }
-    requires then_one { IsSound (declarations_of base.now) (names_seen base.now locals.now)
+    requires then_one { IsSound (program_of base.now) (names_seen base.now locals.now)
         (plain then_one.now) }
-    requires else_one { IsSound (declarations_of base.now) (names_seen base.now locals.now)
+    requires else_one { IsSound (program_of base.now) (names_seen base.now locals.now)
         (plain else_one.now) }
     ensures gives { IfOk result (KindGives base.now (graph_of world.old) locals.now
         (graph_of world.new)
@@ -66,7 +66,7 @@ pub(crate) fn check_if(
 /// `&&`, or `||`: the second operand is met where the first has this value.
 #[cycle(check)]
 pub(crate) fn check_short(
-    base: &Base<'_, '_>,
+    base: &Base<'_, '_, '_>,
     world: &mut World,
     locals: &[(Name, NodeId)],
     first: NodeId,
@@ -76,7 +76,7 @@ pub(crate) fn check_short(
 ) -> Result<NodeId, CheckError>
     requires ready { IsReady base.now (graph_of world.old) locals.now }
     requires first { first.0 < length (graph_of world.old) }
-    requires sound { IsSound (declarations_of base.now) (names_seen base.now locals.now)
+    requires sound { IsSound (program_of base.now) (names_seen base.now locals.now)
         (plain expr.now) }
     ensures gives { IfOk result (TailGives base.now (graph_of world.old) locals.now
         (graph_of world.new) first (Operand (short_op met) (plain expr.now))) }
@@ -96,7 +96,7 @@ pub(crate) fn check_short(
 // An expression, where what is tested may have this truth value.
 #[cycle(check)]
 fn check_side(
-    base: &Base<'_, '_>,
+    base: &Base<'_, '_, '_>,
     world: &mut World,
     locals: &[(Name, NodeId)],
     tested: NodeId,
@@ -105,7 +105,7 @@ fn check_side(
 ) -> Result<Option<NodeId>, CheckError>
     requires ready { IsReady base.now (graph_of world.old) locals.now }
     requires tested { tested.0 < length (graph_of world.old) }
-    requires sound { IsSound (declarations_of base.now) (names_seen base.now locals.now)
+    requires sound { IsSound (program_of base.now) (names_seen base.now locals.now)
         (plain expr.now) }
     ensures gives { IfOk result (SideGives base.now (graph_of world.old) locals.now
         (graph_of world.new) tested value (plain expr.now)) }
@@ -124,7 +124,7 @@ fn check_side(
 
 // The node of a truth value, where what is tested may have it.
 fn short_side(
-    base: &Base<'_, '_>,
+    base: &Base<'_, '_, '_>,
     world: &mut World,
     tested: NodeId,
     value: bool,
@@ -146,7 +146,7 @@ fn short_side(
 }
 
 // The node of a truth value.
-fn truth(base: &Base<'_, '_>, value: bool) -> NodeId
+fn truth(base: &Base<'_, '_, '_>, value: bool) -> NodeId
     ensures { result ≡ truth_node base.now value }
 {
     if value { base.yes } else { base.no }
@@ -154,7 +154,7 @@ fn truth(base: &Base<'_, '_>, value: bool) -> NodeId
 
 // Whether some element is in both nodes.
 fn may_be(
-    base: &Base<'_, '_>,
+    base: &Base<'_, '_, '_>,
     world: &mut World,
     one: NodeId,
     other: NodeId,
@@ -178,7 +178,7 @@ fn may_be(
 
 // A node of what is in one of the nodes that are there.
 fn either(
-    base: &Base<'_, '_>,
+    base: &Base<'_, '_, '_>,
     world: &mut World,
     one: Option<NodeId>,
     other: Option<NodeId>,

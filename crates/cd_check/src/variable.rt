@@ -8,7 +8,11 @@ use cd_sets::node_id::NodeId;
 use cd_syntax::name::Name;
 
 /// The node of a variable that is seen, or else of a function that is declared.
-pub(crate) fn find(base: &Base<'_, '_>, locals: &[(Name, NodeId)], name: &Name) -> Option<NodeId>
+pub(crate) fn find(
+    base: &Base<'_, '_, '_>,
+    locals: &[(Name, NodeId)],
+    name: &Name,
+) -> Option<NodeId>
     ensures { result ≡ node_at (seen_by base.now locals.now) name.now }
 {
     match local(locals, name) {
@@ -30,7 +34,7 @@ fn local(locals: &[(Name, NodeId)], name: &Name) -> Option<NodeId>
 }
 
 // The node of the function of this name.
-fn function(base: &Base<'_, '_>, name: &Name) -> Option<NodeId>
+fn function(base: &Base<'_, '_, '_>, name: &Name) -> Option<NodeId>
     ensures { result ≡ node_at (declared base.now.functions.now base.now.interfaces.now) name.now }
 {
     match base.functions.find(name) {

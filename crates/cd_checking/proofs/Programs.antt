@@ -7,15 +7,12 @@ use Rattle.cd_model.specs.Thing.{Thing, Atom, IsElement}
 use Rattle.cd_elements.specs.Table.{Names, element_at}
 use Rattle.cd_elements.specs.declared.shape.ElementId.{ElementId}
 use Rattle.cd_program.specs.Expr.{Program}
-use Rattle.cd_names.specs.ProgramFaults.{in_types}
 use Rattle.cd_replies.specs.Bytes.{Bytes}
 use Rattle.cd_replies.specs.Disk.{Disk, HasText}
 use Rattle.cd_replies.specs.Message.{reply_of}
-use Rattle.cd_replies.specs.Naming.{RefusesNames, naming}
 use Rattle.cd_replies.specs.Reply.{Reply}
 use Rattle.cd_replies.specs.Texts.{ReadsAsProgram}
 use Rattle.cd_replies.specs.declared.message.Message.{Message}
-use Rattle.cd_replies.specs.declared.refusal.Refusal.{Refusal}
 use Rattle.cd_least.specs.ProgramFaults.{ProgramFault}
 use Rattle.cd_check.specs.Faults.{Reports}
 use Rattle.cd_check.specs.declared.fault.CheckError.{CheckError}
@@ -30,10 +27,6 @@ pub answers_program : (file text : Bytes) (program : Program) → ReadsAsProgram
 answers_program file text program reads (Ok message) answers =
     λ disk has. on_program text program (record { has = has; reads = reads }) (reply_of message) answers
 answers_program file text program reads (Err error) answers = tt
-
--- no naming fault is reported of its declarations
-pub names_sound : (text : Bytes) (program : Program) → ReadsAsProgram text program → (found : Refusal) → RefusesNames program.types found → ⊥
-names_sound text program reads _ (naming fault reported) = reads.sound fault (in_types fault reported.is)
 
 -- what a number of the table names is an element
 pub element_is : (table : List Thing) (id : ElementId) → AllOf IsElement table → Names table id → IsElement (element_at table id)

@@ -1,27 +1,29 @@
 //! The command `check`: whether the typing rules type a program.
 #![tactic(auto)]
 
-ghost use Rattle.std.specs.Prelude.{◌≡◌, IfOk, MatchOption};
+ghost use Rattle.std.specs.Prelude.{◌≡◌, IfOk, IfNone, MatchOption};
 ghost use Rattle.cd_program.specs.PlainProgram.{plain_program};
 ghost use Rattle.cd_program.specs.WellMade.{IsWellMadeProgram};
 ghost use Rattle.cd_typing.specs.Typed.{IsTyped};
+ghost use Rattle.cd_resolved.specs.Resolved.{program_of, IsResolved, Extends};
+ghost use Rattle.cd_replies.specs.Bytes.{Bytes};
 ghost use Rattle.cd_replies.specs.Disk.{Disk, HasText};
 ghost use Rattle.cd_replies.specs.File.{ReadsThere};
 ghost use Rattle.cd_replies.specs.Message.{IsAnswer, reply_of};
 ghost use Rattle.cd_replies.specs.Texts.{ReadsAsProgram};
-ghost use Rattle.cd_empty.specs.Seen.{table_of};
+ghost use Rattle.cd_empty.specs.Seen.{graph_of, table_of};
 ghost use Rattle.cd_checking.specs.CheckAnswer.{CheckAnswer, ProgramAnswer, ReportsFault};
 ghost use Rattle.cd_checking.specs.Inner.FaultSaid.{IsNamed, IsSaid};
 
 use cd_base::files::Files;
-use cd_check::{CheckError, check_types};
+use cd_check::{CheckError, check_types, world_of};
 use cd_empty::World;
+use cd_placed::laws::places_differ;
 use cd_program::program::Program;
 use cd_replies::file::read_file;
 use cd_replies::message::{Message, accepted, ill_typed, no_text, refused};
-use cd_replies::naming::declare;
 use cd_replies::reader::read_program;
-use cd_replies::refusal::RefusalError;
+use cd_resolved::{Resolved, resolve_program};
 use std::alloc::{AllocError, Global};
 
 /// What is said of the program of a file: that it is accepted, where the typing rules type it, or
@@ -65,39 +67,86 @@ fn of_program(
     ensures { IfOk result (λ message.
         ProgramAnswer file.now text.now (plain_program program.now) (reply_of message)) }
 {
-    match no_types(alloc, file, text, program)? {
+    let program = resolved(alloc, program)?;
+    of_resolved(alloc, file, text, &program)
+}
+
+// The same, where the program is resolved.
+fn of_resolved(
+    alloc: Global,
+    file: &str,
+    text: &str,
+    program: &Resolved<'_>,
+) -> Result<Message, AllocError>
+    requires resolved { IsResolved program.now }
+    ensures { IfOk result (λ message.
+        ProgramAnswer file.now text.now (program_of program.now) (reply_of message)) }
+{
+    let mut world = world_of(alloc, program)?;
+    in_world(alloc, &mut world, file, text, program)
+}
+
+// The same, in a world of its nodes.
+fn in_world(
+    alloc: Global,
+    world: &mut World,
+    file: &str,
+    text: &str,
+    program: &Resolved<'_>,
+) -> Result<Message, AllocError>
+    requires resolved { IsResolved program.now }
+    requires begins { Extends program.now (graph_of world.old) }
+    ensures { IfOk result (λ message.
+        ProgramAnswer file.now text.now (program_of program.now) (reply_of message)) }
+{
+    match no_types(alloc, world, file, text, program)? {
         None => accepted(alloc),
         Some(message) => Ok(message),
     }
 }
 
-/// What is said of a program, which this text of a file reads as, if the typing rules do not type
-/// it: the place, the rule and the element of a fault of typing.
+/// A program that was read, with the nodes of its written types.
+///
+/// # Errors
+///
+/// Want of memory.
+pub fn resolved<'p>(alloc: Global, program: &'p Program) -> Result<Resolved<'p>, AllocError>
+    requires read { (text : Bytes) × ReadsAsProgram text (plain_program program.now) }
+    requires well_made { IsWellMadeProgram (plain_program program.now) }
+    ensures program { IfOk result (λ resolved. program_of resolved ≡ plain_program program.now) }
+    ensures resolved { IfOk result IsResolved }
+{
+    // The contract of this call says that no two functions, nor patterns, of a program that a text
+    // writes begin at one place.
+    places_differ();
+    resolve_program(alloc, program)
+}
+
+/// What is said of a program if the typing rules do not type it: the place in this text of a file,
+/// the rule and the element of a fault of typing. The world begins with the nodes of the program,
+/// and still does so where the program has types.
 ///
 /// # Errors
 ///
 /// Want of memory.
 pub fn no_types(
     alloc: Global,
+    world: &mut World,
     file: &str,
     text: &str,
-    program: &Program,
+    program: &Resolved<'_>,
 ) -> Result<Option<Message>, AllocError>
-    requires reads { ReadsAsProgram text.now (plain_program program.now) }
-    requires well_made { IsWellMadeProgram (plain_program program.now) }
-    ensures { IfOk result (λ found. MatchOption found (IsTyped (plain_program program.now))
-        (λ message. ReportsFault file.now text.now (plain_program program.now)
+    requires resolved { IsResolved program.now }
+    requires begins { Extends program.now (graph_of world.old) }
+    ensures types { IfOk result (λ found. MatchOption found (IsTyped (program_of program.now))
+        (λ message. ReportsFault file.now text.now (program_of program.now)
         (reply_of message))) }
+    ensures begins { IfOk result
+        (λ found. IfNone found (Extends program.now (graph_of world.new))) }
 {
-    let mut world = World::new(alloc)?;
-    let names = match declare(alloc, &mut world, &program.types) {
-        Ok(names) => names,
-        Err(RefusalError::Memory) => return Err(AllocError),
-        Err(RefusalError::Refused(_)) => unreachable!(),
-    };
-    match check_types(alloc, &mut world, &names, program) {
+    match check_types(alloc, world, program) {
         Ok(()) => Ok(None),
-        Err(error) => Ok(Some(unmet(alloc, file, text, &world, error)?)),
+        Err(error) => Ok(Some(unmet(alloc, file, text, world, error)?)),
     }
 }
 

@@ -2,7 +2,7 @@ mod ArrowsCollected
 mod NodesPut
 mod Deciding
 mod WholesHold
-mod InterfacesWritten
+mod WholesKnown
 mod Adding
 mod TablesGrow
 mod FunctionsAdded

@@ -4,7 +4,6 @@ use Rattle.std.proofs.lemmas.Bool.{cases_Bool, or_cases, or_parts, eqb-true, eq-
 use Rattle.std.specs.List.{list_any}
 use Rattle.std.specs.Option.{option_eq}
 use Rattle.cd_sets.specs.declared.node_id.NodeId.{NodeId}
-use Rattle.cd_syntax.specs.TypeTree.{Declarations}
 use Rattle.cd_model.specs.AllOf.{AllOf}
 use Rattle.cd_model.specs.Formula.{Graph, nodes}
 use Rattle.cd_model.specs.Interfaces.{ArrowOf, OfWritten, admits}
@@ -23,7 +22,6 @@ use Rattle.cd_closures.specs.Inner.Collected.{with_nodes}
 use Rattle.cd_closures.specs.Inner.Entries.{has, HasNone, AddsOf, AreRight}
 use Rattle.cd_closures.specs.Inner.Tables.{UnlistedHaveNone, IsFound, IsTable}
 use Rattle.cd_closures.specs.Inner.Wholes.{IsRight}
-use Rattle.cd_closures.specs.MapsOf.{AreMapsOf}
 use Rattle.cd_closures.specs.declared.arrow.NodeArrow.{NodeArrow}
 use Rattle.cd_closures.specs.declared.asked.Asked.{Asked}
 use Rattle.cd_closures.proofs.ArrowsCollected.{of_graph}
@@ -143,7 +141,7 @@ module _ (graph : Graph) (asked : List Asked) (arrows : map (λ one. one.arrow) 
     abbrev scope : Scope
     scope = scope_of program
 
-    of_program : (n : ℕ) → MapsRight graph (interfaces_of program) maps n
+    pub of_program : (n : ℕ) → MapsRight graph (interfaces_of program) maps n
     of_program n = by_case (cases_Bool (is_listed maps n))
       where
         answer_by : (found : Option FunctionTree) (interface : List Signature) (key : Option ℕ) → function_at program n ≡ found
@@ -161,9 +159,3 @@ module _ (graph : Graph) (asked : List Asked) (arrows : map (λ one. one.arrow) 
             answer_by (Some found.f) (interface_of found.f) (Some n) found.found refl (count_is_enough_at program n found.f found.found)
             (ap (λ c. if c then Some n else None) is) found.right
         by_case (inr not) = answer_by None [] None (table.unlisted n not) refl tt (ap (λ c. if c then Some n else None) not) table.others
-
-  pub table_is_right : (types : Declarations) (functions : List FunctionTree) → IsTable graph (types ∷ []) asked functions [] maps
-      → AreMapsOf graph types functions maps
-  table_is_right types functions table program same_types same_functions = of_program program
-      (subst (λ all. IsTable graph (scope_of program) asked all [] maps) (sym same_functions)
-      (subst (λ declared. IsTable graph (declared ∷ []) asked functions [] maps) (sym same_types) table))

@@ -1,10 +1,10 @@
 -- The meet of arrows whose nodes stand for the types of an interface holds just the functions in all arrows of that interface.
-use Rattle.std.proofs.Common.{◌≡◌, ◌++◌, ◌≤◌, ℕ, true, List, [], ◌∷◌, map, refl, sym, subst, true≢false}
+use Rattle.std.proofs.Common.{◌≡◌, ◌++◌, ◌<◌, ◌≤◌, ℕ, true, List, [], ◌∷◌, length, map, refl, sym, ap, subst, true≢false, arith}
 use Rattle.cd_sets.specs.declared.node_id.NodeId.{NodeId}
 use Rattle.cd_syntax.specs.TypeTree.{Tree}
 use Rattle.cd_model.specs.AllOf.{AllOf}
-use Rattle.cd_model.specs.BuiltIns.{built_ins, EMPTY, ANY}
-use Rattle.cd_model.specs.Formula.{Graph, Formula, Arrow, And, formulas_of, nodes}
+use Rattle.cd_model.specs.BuiltIns.{built_ins, EMPTY, ANY, ARROW}
+use Rattle.cd_model.specs.Formula.{Graph, Formula, Arrow, And, formulas_of, formula_at, nodes}
 use Rattle.cd_model.specs.Guarded.{NamesAreGuarded}
 use Rattle.cd_model.specs.Interfaces.{AgreeAt, admits}
 use Rattle.cd_model.specs.Membership.{holds, each_holds, reader}
@@ -21,7 +21,8 @@ use Rattle.cd_matching.specs.WrittenPattern.{in_scope}
 use Rattle.cd_program.specs.Expr.{Signature}
 use Rattle.cd_names.specs.Arrows.{AreArrows}
 use Rattle.cd_evaluation.specs.ProgramInterfaces.{IsEnoughFor}
-use Rattle.cd_closures.specs.Inner.Wholes.{IsMeet, IsWhole, alone, arrow_formula, arrow_formulas}
+use Rattle.cd_resolved.specs.Interfaces.{IsMeet, arrow_formula, arrow_formulas}
+use Rattle.cd_closures.specs.Inner.Wholes.{IsWhole, alone}
 
 -- what is in an arrow is a function
 only_functions : (graph : Graph) (argument result : NodeId) (e : Thing) → holds (reader graph e) (Arrow argument result) true
@@ -69,29 +70,46 @@ module _ (scope : Scope) where
         back interface arrows guarded.1 enough.1 are.2 all.1,
       )
 
-    module _ (more : Graph) (begins : graph ≡ built_ins ++ more) (interface : List Signature) (arrows : List (NodeId × NodeId)) (guarded : AreGuarded interface)
-        (are : AreArrows scope graph interface arrows) (id : NodeId) (meet : IsMeet graph arrows id) where
-      abbrev Meet : Formula
-      Meet = And (formulas_of (arrow_formulas arrows))
-
+    module _ (more : Graph) (begins : graph ≡ built_ins ++ more) where
       -- all functions map from nothing
       every : (pairs : Pairs) → holds (reader graph (Function pairs)) (Arrow EMPTY ANY) true
       every pairs = subst (λ (g : Graph). holds (reader g (Function pairs)) (Arrow EMPTY ANY) true) (sym begins) (all_map more no_closure pairs)
 
-      only : (e : Thing) → IsElement e → holds (reader graph e) Meet true
-          → (pairs : Pairs) × (e ≡ Function pairs) × ((count : ℕ) → IsEnoughFor scope count interface → All count pairs interface)
-      only e element each =
-          let found = only_functions graph EMPTY ANY e each.0 in (
-            found.0,
-            found.1,
-            λ count enough. back count found.0 (subst IsElement found.1 element) interface arrows guarded enough are
-                (subst (λ (d : Thing). holds (reader graph d) Meet true) found.1 each).1,
-          )
+      -- so the built-in node of functions is the whole of no arrows
+      all_functions : formula_at graph ARROW ≡ Arrow EMPTY ANY
+      all_functions = ap (λ (g : Graph). formula_at g ARROW) begins
 
-      pub meet_is_whole : IsWhole scope graph interface id
-      meet_is_whole = record {
-        is_node = meet.is_node;
-        has = λ count pairs enough element all. subst (λ (f : Formula). holds (reader graph (Function pairs)) f true) (sym meet.formula)
-            (every pairs, there count pairs element interface arrows guarded enough are all);
-        only = λ e element inside. only e element (subst (λ (f : Formula). holds (reader graph e) f true) meet.formula inside);
+      only_those : (e : Thing) → holds (reader graph e) (Arrow EMPTY ANY) true
+          → (pairs : Pairs) × (e ≡ Function pairs) × ((count : ℕ) → IsEnoughFor scope count [] → All count pairs [])
+      only_those e inside = let found = only_functions graph EMPTY ANY e inside in (found.0, found.1, λ count enough. tt)
+
+      pub none_is_whole : IsWhole scope graph [] ARROW
+      none_is_whole = record {
+        is_node = subst (λ (g : Graph). 8 < length g) (sym begins) (omega arith);
+        has = λ count pairs enough element all.
+            subst (λ (f : Formula). holds (reader graph (Function pairs)) f true) (sym all_functions) (every pairs);
+        only = λ e element inside. only_those e (subst (λ (f : Formula). holds (reader graph e) f true) all_functions inside);
       }
+
+      module _ (interface : List Signature) (arrows : List (NodeId × NodeId)) (guarded : AreGuarded interface)
+          (are : AreArrows scope graph interface arrows) (id : NodeId) (meet : IsMeet graph arrows id) where
+        abbrev Meet : Formula
+        Meet = And (formulas_of (arrow_formulas arrows))
+
+        only : (e : Thing) → IsElement e → holds (reader graph e) Meet true
+            → (pairs : Pairs) × (e ≡ Function pairs) × ((count : ℕ) → IsEnoughFor scope count interface → All count pairs interface)
+        only e element each =
+            let found = only_functions graph EMPTY ANY e each.0 in (
+              found.0,
+              found.1,
+              λ count enough. back count found.0 (subst IsElement found.1 element) interface arrows guarded enough are
+                  (subst (λ (d : Thing). holds (reader graph d) Meet true) found.1 each).1,
+            )
+
+        pub meet_is_whole : IsWhole scope graph interface id
+        meet_is_whole = record {
+          is_node = meet.is_node;
+          has = λ count pairs enough element all. subst (λ (f : Formula). holds (reader graph (Function pairs)) f true) (sym meet.formula)
+              (every pairs, there count pairs element interface arrows guarded enough are all);
+          only = λ e element inside. only e element (subst (λ (f : Formula). holds (reader graph e) f true) meet.formula inside);
+        }

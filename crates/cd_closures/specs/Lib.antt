@@ -1,3 +1,1 @@
-pub mod SoundInterfaces
-pub mod MapsOf
 pub mod Inner

@@ -1,25 +1,24 @@
-//! The entries of functions.
-ghost use Rattle.std.specs.Prelude.{◌≡◌, ◌∷◌, [], false, map, List, OnOk};
+//! Entries of functions.
+ghost use Rattle.std.specs.Prelude.{◌≡◌, ◌<◌, ◌∷◌, [], false, List, map, length, OnOk};
 ghost use Rattle.cd_model.specs.AllOf.{AllOf};
+ghost use Rattle.cd_model.specs.Scope.{Scope};
 ghost use Rattle.cd_program.specs.Expr.{FunctionTree as PlainFunction};
-ghost use Rattle.cd_program.specs.PlainExpr.{plain_function};
-ghost use Rattle.cd_resolve.specs.Named.{declared_by};
 ghost use Rattle.cd_empty.specs.Growth.{Grows};
 ghost use Rattle.cd_empty.specs.Seen.{graph_of};
 ghost use Rattle.cd_asking.specs.MappedArrows.{is_listed};
 ghost use Rattle.cd_evaluation.specs.Code.{place_of};
-ghost use Rattle.cd_closures.specs.Inner.Ready.{IsReady, AddsFunctions};
+ghost use Rattle.cd_resolved.specs.Resolved.{function_of};
+ghost use Rattle.cd_closures.specs.Inner.Asked.{IsAsked};
+ghost use Rattle.cd_closures.specs.Inner.Ready.{AddsFunctions};
 ghost use Rattle.cd_closures.specs.Inner.Tables.{UnlistedHaveNone};
-ghost use Rattle.cd_closures.specs.SoundInterfaces.{HasSoundInterface};
+ghost use Rattle.cd_closures.specs.Inner.Wholes.{HasWhole};
 
 use crate::asked::Asked;
 use crate::entries::add_entries;
-use crate::whole::whole_of;
 use cd_asking::Maps;
 use cd_empty::World;
-use cd_program::expr::FunctionTree;
-use cd_resolve::Names;
-use std::alloc::{AllocError, Global};
+use cd_resolved::FunctionNodes;
+use std::alloc::AllocError;
 
 /// Adds the entries of functions, of those at one place those of the first.
 ///
@@ -27,76 +26,77 @@ use std::alloc::{AllocError, Global};
 ///
 /// Want of memory.
 pub(crate) fn add_functions(
-    alloc: Global,
     world: &mut World,
-    names: &Names<'_>,
     asked: &[Asked],
-    functions: &[&FunctionTree],
+    functions: &[FunctionNodes<'_>],
     maps: &mut Maps,
 ) -> Result<(), AllocError>
-    requires ready { IsReady (graph_of world.old) names.now asked.now }
-    requires interfaces { AllOf (HasSoundInterface (declared_by names.now))
-        (map (λ f. plain_function f.now) functions.now) }
+    requires asked { AllOf (IsAsked (graph_of world.old)) asked.now }
+    requires wholes { AllOf (λ one. one.whole.0 < length (graph_of world.old)) functions.now }
     requires none { UnlistedHaveNone maps.old }
-    ensures table { OnOk result (AddsFunctions (graph_of world.old) names.now asked.now
-        (map (λ f. plain_function f.now) functions.now) [] maps.old maps.new) }
+    ensures table { OnOk result ((scope : Scope)
+        → AllOf (HasWhole scope (graph_of world.old)) functions.now
+        → AddsFunctions (graph_of world.old) scope asked.now (map function_of functions.now) []
+        maps.old maps.new) }
     ensures grows { Grows world.old world.new }
 {
     for function in functions {
-        add_function(alloc, world, names, asked, function, maps)?;
+        add_function(world, asked, function, maps)?;
     }
     Ok(())
 }
 
 // Those of one function, if it is not listed already.
 fn add_function(
-    alloc: Global,
     world: &mut World,
-    names: &Names<'_>,
     asked: &[Asked],
-    function: &FunctionTree,
+    function: &FunctionNodes<'_>,
     maps: &mut Maps,
 ) -> Result<(), AllocError>
-    requires ready { IsReady (graph_of world.old) names.now asked.now }
-    requires interface { HasSoundInterface (declared_by names.now) (plain_function function.now) }
+    requires asked { AllOf (IsAsked (graph_of world.old)) asked.now }
+    requires whole { function.now.whole.0 < length (graph_of world.old) }
     requires none { UnlistedHaveNone maps.old }
-    ensures table { OnOk result ((left : List PlainFunction)
-        → AddsFunctions (graph_of world.old) names.now asked.now
-        (plain_function function.now ∷ left) left maps.old maps.new) }
+    ensures table { OnOk result ((scope : Scope) (left : List PlainFunction)
+        → HasWhole scope (graph_of world.old) function.now
+        → AddsFunctions (graph_of world.old) scope asked.now (function_of function.now ∷ left) left
+        maps.old maps.new) }
     ensures none { OnOk result (UnlistedHaveNone maps.new) }
-    ensures ready { OnOk result (IsReady (graph_of world.new) names.now asked.now) }
+    ensures graph { graph_of world.new ≡ graph_of world.old }
     ensures grows { Grows world.old world.new }
 {
-    if maps.lists(function.at) {
+    if maps.lists(function.function.at) {
         Ok(())
     } else {
-        add_unlisted(alloc, world, names, asked, function, maps)
+        add_unlisted(world, asked, function, maps)
     }
 }
 
 // Those of a function that is not listed.
 fn add_unlisted(
-    alloc: Global,
     world: &mut World,
-    names: &Names<'_>,
     asked: &[Asked],
-    function: &FunctionTree,
+    function: &FunctionNodes<'_>,
     maps: &mut Maps,
 ) -> Result<(), AllocError>
-    requires ready { IsReady (graph_of world.old) names.now asked.now }
-    requires interface { HasSoundInterface (declared_by names.now) (plain_function function.now) }
+    requires asked { AllOf (IsAsked (graph_of world.old)) asked.now }
+    requires whole { function.now.whole.0 < length (graph_of world.old) }
     requires none { UnlistedHaveNone maps.old }
-    requires unlisted { is_listed maps.old (place_of (plain_function function.now))
-        ≡ false }
-    ensures table { OnOk result ((left : List PlainFunction)
-        → AddsFunctions (graph_of world.old) names.now asked.now
-        (plain_function function.now ∷ left) left maps.old maps.new) }
+    requires unlisted { is_listed maps.old (place_of (function_of function.now)) ≡ false }
+    ensures table { OnOk result ((scope : Scope) (left : List PlainFunction)
+        → HasWhole scope (graph_of world.old) function.now
+        → AddsFunctions (graph_of world.old) scope asked.now (function_of function.now ∷ left) left
+        maps.old maps.new) }
     ensures none { OnOk result (UnlistedHaveNone maps.new) }
-    ensures ready { OnOk result (IsReady (graph_of world.new) names.now asked.now) }
+    ensures graph { graph_of world.new ≡ graph_of world.old }
     ensures grows { Grows world.old world.new }
 {
-    let whole = whole_of(alloc, world, names, &function.interface)?;
-    maps.list(function.at)?;
-    add_entries(maps, world, Some(function.at), whole, asked)?;
+    maps.list(function.function.at)?;
+    add_entries(
+        maps,
+        world,
+        Some(function.function.at),
+        function.whole,
+        asked,
+    )?;
     Ok(())
 }

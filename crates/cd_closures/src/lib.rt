@@ -1,4 +1,4 @@
-//! Which arrows of a graph the closures of functions are in, by the interfaces of these.
+//! Which arrows of a graph the closures of a program are in, by the interfaces of its functions.
 #![tactic(auto)]
 
 mod arrow;
@@ -10,6 +10,5 @@ mod entries;
 mod functions;
 mod maps;
 mod put;
-mod whole;
 
 pub use maps::maps_of;

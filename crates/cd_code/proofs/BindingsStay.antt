@@ -1,12 +1,14 @@
 -- The names that a pattern binds keep their numbers where a table of names grows.
-use Rattle.std.proofs.Common.{◌≡◌, List, [], ◌∷◌, ◌++◌, refl, sym, ap, ap₂, subst, ◌∙◌}
+use Rattle.std.proofs.Common.{◌≡◌, List, [], ◌∷◌, ◌++◌, Vec, Global, refl, sym, ap, ap₂, subst, ◌∙◌}
 use Rattle.std.proofs.lemmas.List.{map_push}
 use Rattle.cd_syntax.specs.Name.{Name, IsLabel}
+use Rattle.cd_model.proofs.ByNumber.{zip_weaker}
 use Rattle.cd_model.proofs.Covered.{each_both}
 use Rattle.cd_cells.specs.Cells.{name_at}
 use Rattle.cd_cells.proofs.InGrown.{name_in_grown}
+use Rattle.cd_resolved.specs.declared.pattern_kernel.PatternKernel.{PatternKernel}
 use Rattle.cd_code.specs.declared.binding.Binding.{Binding}
-use Rattle.cd_code.specs.Inner.Bindings.{named_by, all_named, HaveLabels}
+use Rattle.cd_code.specs.Inner.Bindings.{named_by, all_named, HaveLabels, AreBindingsOf, AreAllBound}
 
 pub still_named : (names more : List Name) (bindings : List Binding) → HaveLabels names bindings
     → all_named (names ++ more) bindings ≡ all_named names bindings
@@ -42,3 +44,16 @@ module _ (old new : List Name) (grown : (more : List Name) × (new ≡ old ++ mo
   one_more_label after binding name is named label =
       subst (HaveLabels new) (sym is)
       (each_both (λ one. IsLabel (name_at new one.label)) bindings (binding ∷ []) labels_in_grown (subst IsLabel (sym named) label, tt))
+
+-- the names that each of some patterns binds
+pub still_bound : (names more : List Name) (kernels : List PatternKernel) (all : List (Vec Binding Global)) → AreAllBound names kernels all
+    → AreAllBound (names ++ more) kernels all
+still_bound names more = zip_weaker (AreBindingsOf names) (AreBindingsOf (names ++ more)) (λ one bindings are. record {
+  bound = still_named names more bindings.items are.labels ∙ are.bound;
+  labels = still_labels names more bindings.items are.labels;
+})
+
+pub bound_in_grown : (old new : List Name) → (more : List Name) × (new ≡ old ++ more) → (kernels : List PatternKernel) (all : List (Vec Binding Global))
+    → AreAllBound old kernels all → AreAllBound new kernels all
+bound_in_grown old new grown kernels all are =
+    subst (λ names. AreAllBound names kernels all) (sym grown.1) (still_bound old grown.0 kernels all are)

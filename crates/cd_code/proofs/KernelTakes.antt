@@ -13,7 +13,7 @@ use Rattle.cd_matching.specs.Take.{take}
 use Rattle.cd_matching.specs.Takes.{IsRight, PatternStandsFor, WrittenValueTakes}
 use Rattle.cd_kernel.specs.Making.{TakesAlike}
 use Rattle.cd_asking.specs.Mappings.{Mappings}
-use Rattle.cd_code.specs.Codes.{AreTested}
+use Rattle.cd_code.specs.Tested.{AreTested}
 use Rattle.cd_code.proofs.RightTests as tests
 
 -- each test that is right of values gives the kernel's root this result

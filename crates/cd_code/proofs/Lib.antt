@@ -1,5 +1,3 @@
-mod PartsFound
-mod SlotsFilled
 mod VariableNumbers
 mod EnvironmentsJoined
 mod BindingsStay
@@ -8,16 +6,8 @@ mod RightTests
 mod EnvironmentsCaptured
 mod KernelTakes
 mod CodeTakes
-mod ConstantsAlike
-mod KernelsMade
-mod CodesStay
-pub mod CodesMade
-mod CopiesMade
-mod ProgramPatterns
-pub mod SoundParts
-mod ProgramCoded
 mod NamesBound
-mod TreeStarts
+mod PatternsBound
+mod PatternsNumbered
 pub mod ReadyStays
 mod TakenParts
-mod ProgramReady

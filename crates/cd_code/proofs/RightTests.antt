@@ -20,7 +20,7 @@ use Rattle.cd_asking.specs.Inner.Shapes.{shape_of, in_formula, is_in}
 use Rattle.cd_asking.specs.MappedArrows.{maps_at, MapsRight}
 use Rattle.cd_asking.specs.Mappings.{Mappings}
 use Rattle.cd_asking.proofs.InNode.{value_answers_as_tested}
-use Rattle.cd_code.specs.Codes.{AreTested}
+use Rattle.cd_code.specs.Tested.{AreTested}
 
 module _ (graph : Graph) (interfaces : Interfaces) (maps : Mappings) (tested : AreTested graph interfaces maps) where
   -- what each thing answers

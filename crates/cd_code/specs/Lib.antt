@@ -1,3 +1,3 @@
 pub mod Compiled
-pub mod Codes
+pub mod Tested
 pub mod Inner

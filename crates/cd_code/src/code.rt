@@ -7,15 +7,15 @@ ghost use Rattle.cd_cells.specs.Cells.{thing_at};
 ghost use Rattle.cd_cells.specs.Table.{table, names, Grows};
 ghost use Rattle.cd_evaluation.specs.ProgramCode.{code_of};
 ghost use Rattle.cd_evaluation.specs.ProgramFunctions.{function_at, declared_at};
-ghost use Rattle.cd_code.specs.Compiled.{program_of, captured_of, IsPatternOf, if_taken, env_of};
+ghost use Rattle.cd_resolved.specs.Parts.{IsPatternOf};
+ghost use Rattle.cd_code.specs.Compiled.{program_of, resolved_of, captured_of, if_taken, env_of};
 ghost use Rattle.cd_code.specs.Compiled.{ArePartsOf, IsReady};
 
-use crate::find::find;
-use crate::parts::Functions;
-use crate::pattern_code::PatternCode;
+use crate::binding::Binding;
 use crate::take::take;
-use cd_cells::{Part, Slots, ValueId, Values};
+use cd_cells::{Part, ValueId, Values};
 use cd_program::expr::FunctionTree;
+use cd_resolved::Resolved;
 use cd_syntax::type_tree::Tree;
 use cd_taking::{Taker, Tests};
 use std::alloc::AllocError;
@@ -23,12 +23,10 @@ use std::alloc::AllocError;
 /// The code of a program: what evaluation asks of it.
 #[derive(Drop)]
 pub struct Code<'p> {
-    /// The program and its functions.
-    pub(crate) functions: Functions<'p>,
-    /// The codes of its patterns.
-    pub(crate) codes: Vec<PatternCode<'p>>,
-    /// The numbers of codes by the places where their patterns begin.
-    pub(crate) starts: Slots<usize>,
+    /// The program, with the kernels of its patterns.
+    pub(crate) program: Resolved<'p>,
+    /// The names that each pattern binds, by the number of the pattern.
+    pub(crate) bindings: Vec<Vec<Binding>>,
     /// What tests whether values are in types.
     pub(crate) tests: Tests,
     /// What takes values by kernels.
@@ -38,19 +36,26 @@ pub struct Code<'p> {
 }
 
 impl<'p> Code<'p> {
+    /// The program that it is of.
+    pub fn program(&self) -> &Resolved<'p>
+        ensures { result.now ≡ resolved_of self.now }
+    {
+        &self.program
+    }
+
     /// The function whose word `fun` stands at a place.
     pub fn function(&self, at: usize) -> Option<&'p FunctionTree>
         ensures { option_map (λ f. plain_function f.now) result
             ≡ function_at (program_of self.now) at }
     {
-        self.functions.function(at)
+        self.program.function(at)
     }
 
     /// The place of the function that is declared by a name.
     pub fn declared(&self, name: &str) -> Option<usize>
         ensures { result ≡ declared_at (program_of self.now) (chars name.now) }
     {
-        self.functions.declared(name)
+        self.program.declared(name)
     }
 
     /// Whether a pattern of the program takes a value. What it captures is kept until the next
@@ -73,18 +78,18 @@ impl<'p> Code<'p> {
             (thing_at (table values.old) id.0)
             (if_taken takes (env_of values.new (captured_of self.new)))) }
         ensures parts { OnOk result (ArePartsOf values.new (captured_of self.new)) }
-        ensures ready { OnOk result (IsReady (names values.new) self.new) }
+        ensures ready { IsReady (names values.new) self.new }
         ensures program { program_of self.new ≡ program_of self.old }
         ensures grows { Grows values.old values.new }
     {
-        // Each pattern of the program has a code.
-        let Some(code) = find(self.codes.as_slice(), &self.starts, pattern) else {
-            return Err(AllocError);
-        };
+        let number = self.program.pattern_number(pattern);
+        let one = &self.program.kernels()[number];
+        let bindings = &self.bindings.as_slice()[number];
         // The contract of this call says that each thing of the table is a value.
         values.knows();
         take(
-            code,
+            &one.kernel,
+            bindings.as_slice(),
             &mut self.taker,
             &mut self.tests,
             values,

@@ -1,4 +1,4 @@
-//! The code of a program: its functions by their places and names, and what its patterns take.
+//! The code of a program that is resolved: what its patterns take, and what they bind.
 #![tactic(auto)]
 
 mod binding;
@@ -6,12 +6,7 @@ mod bindings;
 mod capturing;
 pub mod code;
 mod compiling;
-mod copy;
-mod find;
 pub mod laws;
-mod parts;
-mod pattern;
-pub mod pattern_code;
 mod patterns;
 mod take;
 mod tests;

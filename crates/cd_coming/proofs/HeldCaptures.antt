@@ -76,10 +76,10 @@ found_at graph (one ∷ all) name = by_test (bytes_eq one.0 name) refl (found_at
 
 module _ (graph : Graph) (scope : Scope) (written : Tree) (site : Site)
     (is : IsSite graph scope written site) (matched : NodeId) (all : List (Name × NodeId))
-    (names : names_in all ≡ (plain_kernel site.kernel).variables)
-    (exact : AreExactCaptures graph matched (plain_kernel site.kernel) (ids_in all)) where
+    (names : names_in all ≡ (plain_kernel site.kernel.now).variables)
+    (exact : AreExactCaptures graph matched (plain_kernel site.kernel.now) (ids_in all)) where
   abbrev kernel : Kernel NodeId
-  kernel = plain_kernel site.kernel
+  kernel = plain_kernel site.kernel.now
 
   abbrev at_root : Thing → Option (Captures ℕ)
   at_root e = taken NodeId (test graph) kernel.nodes e kernel.root

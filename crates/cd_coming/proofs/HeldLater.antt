@@ -19,8 +19,8 @@ use Rattle.cd_sites.proofs.SitesStay.{site_stays}
 
 module _ (old new : Graph) (grows : (more : Graph) × (new ≡ old ++ more)) (sound : IsGraph new)
     (site : Site) (matched : NodeId) (below : matched.0 < length old)
-    (all : List (Name × NodeId)) (names : names_in all ≡ (plain_kernel site.kernel).variables)
-    (exact : AreExactCaptures new matched (plain_kernel site.kernel) (ids_in all))
+    (all : List (Name × NodeId)) (names : names_in all ≡ (plain_kernel site.kernel.now).variables)
+    (exact : AreExactCaptures new matched (plain_kernel site.kernel.now) (ids_in all))
     (scope : Scope) (written : Tree) (is : IsSite old scope written site) where
   still : IsSite new scope written site
   still = subst (λ (g : Graph). IsSite g scope written site) (sym grows.1)

@@ -28,7 +28,7 @@ pub(crate) fn types_captured(
     alloc: Global,
     world: &mut World,
     matched: NodeId,
-    site: &Site,
+    site: &Site<'_>,
 ) -> Result<Vec<(Name, NodeId)>, AllocError>
     requires site { IsAccepted (graph_of world.old) site.now }
     requires matched { matched.0 < length (graph_of world.old) }
@@ -46,5 +46,5 @@ pub(crate) fn types_captured(
     ensures sound { IsGraph (graph_of world.new) }
     ensures grows { Grows world.old world.new }
 {
-    Ok(captured(alloc, world, matched, &site.kernel, site.accepted)?)
+    Ok(captured(alloc, world, matched, site.kernel, site.accepted)?)
 }

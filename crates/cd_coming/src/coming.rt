@@ -25,7 +25,7 @@ pub fn captures(
     alloc: Global,
     world: &mut World,
     matched: NodeId,
-    site: &Site,
+    site: &Site<'_>,
 ) -> Result<Option<Vec<(Name, NodeId)>>, AllocError>
     requires site { IsAccepted (graph_of world.old) site.now }
     requires matched { matched.0 < length (graph_of world.old) }

@@ -27,7 +27,7 @@ use std::alloc::AllocError;
 pub(crate) fn taken(
     world: &mut World,
     matched: NodeId,
-    site: &Site,
+    site: &Site<'_>,
 ) -> Result<Option<ElementId>, AllocError>
     requires site { IsAccepted (graph_of world.old) site.now }
     requires matched { matched.0 < length (graph_of world.old) }

@@ -5,7 +5,8 @@ use Rattle.cd_cells.specs.Table.{names, Grows}
 use Rattle.cd_cells.specs.declared.cell.Part.{Part}
 use Rattle.cd_cells.specs.declared.values.Values.{Values}
 use Rattle.cd_evaluation.specs.ProgramCode.{code_of}
-use Rattle.cd_code.specs.Compiled.{program_of, ArePartsOf, IsReady, IsPatternOf}
+use Rattle.cd_resolved.specs.Parts.{IsPatternOf}
+use Rattle.cd_code.specs.Compiled.{program_of, ArePartsOf, IsReady}
 use Rattle.cd_machine.specs.Inner.CodeIn.{code_in, IsPatternIn}
 use Rattle.cd_code.specs.declared.code.Code.{Code}
 use Rattle.cd_machine.specs.Inner.Nodes.{Longer}

@@ -14,7 +14,8 @@ use Rattle.cd_evaluation.specs.ProgramFunctions.{functions_in, functions_in_kind
 use Rattle.cd_evaluation.specs.ProgramFunctions.{functions_in_branches, functions_within, within_all, all_functions, first_at, function_at}
 use Rattle.cd_placed.specs.Patterns.{patterns_in, patterns_in_kind, patterns_in_exprs, patterns_in_items, patterns_in_fields, patterns_in_tails, patterns_in_branches}
 use Rattle.cd_placed.specs.Patterns.{patterns_of_function, patterns_of_functions, all_patterns}
-use Rattle.cd_code.specs.Compiled.{program_of, IsPatternOf}
+use Rattle.cd_resolved.specs.Parts.{IsPatternOf}
+use Rattle.cd_code.specs.Compiled.{program_of}
 use Rattle.cd_code.specs.declared.code.Code.{Code}
 use Rattle.cd_machine.specs.Inner.CodeIn.{code_in, IsPatternIn}
 use Rattle.cd_machine.specs.Inner.Known.{FunctionsAreKnown, IsKnown, KindIsKnown, AreKnown, ItemsAreKnown, FieldsAreKnown, TailsAreKnown, BranchesAreKnown, FunctionIsKnown}

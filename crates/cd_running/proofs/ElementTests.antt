@@ -1,6 +1,6 @@
 -- The tests of the program's patterns are right of elements, whatever the types see and wherever they are written. With them
 -- what a pattern takes is computed.
-use Rattle.std.proofs.Common.{◌≡◌, false, Option, refl, arith}
+use Rattle.std.proofs.Common.{◌≡◌, Option, refl, arith}
 use Rattle.std.proofs.lemmas.Int.{ints}
 use Rattle.cd_syntax.specs.Name.{Name}
 use Rattle.cd_syntax.specs.TypeTree as type

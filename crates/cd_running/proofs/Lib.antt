@@ -1,7 +1,7 @@
 pub mod RunReplies
 pub mod InputDecided
 mod FileRefused
-mod Characters
+pub mod Characters
 pub mod TypedPrograms
 mod SafeRuns
 mod RunsAnswered
@@ -9,7 +9,6 @@ mod DocumentsIn
 mod Literals
 mod MainFound
 mod ArrowsAnswered
-mod MainInterface
 pub mod ProgramReads
 pub mod ProgramTyped
 pub mod DocumentWrites

@@ -1,5 +1,5 @@
 -- What is counted of the run on a document is what the answer says of it.
-use Rattle.std.proofs.Common.{◌≡◌, ◌∙◌, ℕ, ◌+◌, ◌≤◌, List, Some, Result, Ok, Err, length, refl, ap, subst}
+use Rattle.std.proofs.Common.{◌≡◌, ℕ, ◌+◌, ◌≤◌, List, Some, Result, Ok, Err, length, ap, subst}
 use Rattle.std.specs.Prelude.{IfOk}
 use Rattle.std.specs.declared.alloc.AllocError.{AllocError}
 use Rattle.cd_model.specs.Thing.{Thing}
@@ -12,14 +12,11 @@ use Rattle.cd_replies.specs.declared.message.Message.{Message}
 use Rattle.cd_replies.proofs.Messages.{replies}
 use Rattle.cd_running.specs.Ending.{text_of}
 use Rattle.cd_running.specs.declared.workload.runs.Ended.{Ended}
+use Rattle.cd_running.specs.Inner.WorkCounted.{IsOfRun}
 use Rattle.cd_running.specs.Inner.WorkValues.{result}
 use Rattle.cd_running.specs.Queries.{Answered}
-use Rattle.cd_running.specs.WorkAnswer.{Runs, WorkAnswer, worked, summary}
+use Rattle.cd_running.specs.WorkAnswer.{WorkAnswer, worked, summary}
 use Rattle.cd_running.proofs.RunFound.{end_of, left_of, runs}
-
--- what is counted is that of a run on so many entries
-abbrev pub IsOfRun : (size : ℕ) → Ended → Type 0
-IsOfRun size ended = (v : Thing) × Runs size ended.used v × (ended.length ≡ length (text_of v))
 
 module _ (size : ℕ) (all : List Thing) (ran : Ran) (is : Some (plain_ran all ran) ≡ Some (end_of size)) where
   ends : plain_ran all ran ≡ end_of size

@@ -1,5 +1,5 @@
 -- What is found of the program on a document: a run of it, which gives its value and leaves the units that it did not use.
-use Rattle.std.proofs.Common.{◌≡◌, ◌∙◌, ℕ, suc, ◌+◌, ◌-◌, ◌≤◌, List, Option, Some, None, refl, ap, subst, arith}
+use Rattle.std.proofs.Common.{◌≡◌, ℕ, suc, ◌+◌, ◌-◌, ◌≤◌, Option, Some, None, ap, subst, arith}
 use Rattle.cd_model.specs.Thing.{Thing}
 use Rattle.cd_program.specs.Expr.{Program}
 use Rattle.cd_evaluation.specs.ProgramInterfaces.{interface_of}

@@ -4,12 +4,9 @@ use Rattle.cd_placed.proofs.PlacesOfPrograms.{functions_stand_apart, patterns_be
 use Rattle.cd_placed.proofs.ProgramsInRange.{constants_are_elements}
 use Rattle.cd_program.specs.Expr.{Program}
 use Rattle.cd_program.specs.WellMade.{IsWellMadeProgram}
-use Rattle.cd_names.specs.ProgramFaults.{in_types}
 use Rattle.cd_typing.specs.Typed.{IsTyped}
 use Rattle.cd_replies.specs.Bytes.{Bytes}
-use Rattle.cd_replies.specs.Naming.{RefusesNames, naming}
 use Rattle.cd_replies.specs.Texts.{ReadsAsProgram}
-use Rattle.cd_replies.specs.declared.refusal.Refusal.{Refusal}
 use Rattle.cd_running.specs.TypedProgram.{IsTypedProgram}
 use Rattle.cd_running.proofs.Characters.{characters_scalar}
 
@@ -23,6 +20,3 @@ typed_program text program utf8 reads made typed = record {
   patterns = patterns_begin_apart (chars text) reads.tokens 1000 program reads.spelled reads.written;
   constants = constants_are_elements (chars text) reads.tokens 1000 program (characters_scalar text utf8) reads.spelled reads.written;
 }
-
-pub names_sound : (program : Program) → IsTypedProgram program → (found : Refusal) → RefusesNames program.types found → ⊥
-names_sound program typed _ (naming fault reported) = typed.sound fault (in_types fault reported.is)

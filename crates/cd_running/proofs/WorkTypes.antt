@@ -1,9 +1,8 @@
 -- The types of the workload's program as nodes of one graph: `[Int*]`, `Entry`, `[Entry*]`, `Log`, and the functions from `Log`
 -- to `[Int*]`.
-use Rattle.std.proofs.Common.{rules, ◌≡◌, ◌<◌, ◌++◌, IsTrue, false, [], ◌∷◌, codes, bytes_eq, refl, sym, ◌∙◌, true≢false}
-use Rattle.std.proofs.lemmas.Slice.Eq.{bytes_eq-Decides}
+use Rattle.std.proofs.Common.{rules, ◌<◌, ◌++◌, false, [], ◌∷◌, codes, refl}
 use Rattle.cd_sets.specs.declared.node_id.NodeId.{NodeId}
-use Rattle.cd_syntax.specs.Name.{Name, IsLabel, is_word}
+use Rattle.cd_syntax.specs.Name.{IsLabel}
 use Rattle.cd_model.specs.BuiltIns.{built_ins, atoms_of, node, EMPTY, ANY, INT}
 use Rattle.cd_model.specs.Formula.{Graph, IsGraph, Xml, Record, Arrow}
 use Rattle.cd_model.proofs.SoundBuiltIns.{a_label}

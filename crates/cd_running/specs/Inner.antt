@@ -4,5 +4,6 @@ pub mod Inputs
 pub mod ArrowsLeft
 pub mod WorkProgram
 pub mod WorkValues
+pub mod WorkCounted
 pub mod WorkQueries
 pub mod Asking

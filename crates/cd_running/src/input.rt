@@ -1,93 +1,91 @@
 //! Whether a program takes a document.
-ghost use Rattle.std.specs.Prelude.{◌≡◌, ◌<◌, [], ◌∷◌, length, option_map, IfOk, IfSome, Some};
-ghost use Rattle.cd_syntax.specs.PlainTree.{plain};
-ghost use Rattle.cd_syntax.specs.WellMade.{IsWellMade};
+ghost use Rattle.std.specs.Prelude.{◌≡◌, ◌<◌, length, option_map, IfOk, IfSome, Some};
 ghost use Rattle.cd_cells.specs.Cells.{thing_at};
 ghost use Rattle.cd_cells.specs.Table.{table};
-ghost use Rattle.cd_empty.specs.Seen.{graph_of};
-ghost use Rattle.cd_model.specs.AllOf.{AllOf, AnyOf};
-ghost use Rattle.cd_model.specs.Written.{in_written};
+ghost use Rattle.cd_graph.specs.Nodes.{nodes};
 ghost use Rattle.cd_program.specs.Expr.{FunctionTree as AFunction};
-ghost use Rattle.cd_program.specs.PlainExpr.{plain_function, plain_interface};
-ghost use Rattle.cd_resolve.specs.Faults.{Fault, IsFaultOfType, IsFaultOfDeclarations};
-ghost use Rattle.cd_resolve.specs.Named.{AreNamed, plain_names, declared_by};
-ghost use Rattle.cd_code.specs.Compiled.{program_of};
-ghost use Rattle.cd_evaluation.specs.ProgramFunctions.{all_functions};
+ghost use Rattle.cd_program.specs.PlainExpr.{plain_function};
+ghost use Rattle.cd_names.specs.Arrows.{AreArrows};
+ghost use Rattle.cd_typing.specs.Typed.{scope_of};
+ghost use Rattle.cd_evaluation.specs.ProgramInterfaces.{interface_of};
+ghost use Rattle.cd_resolved.specs.Parts.{IsFunctionOf};
+ghost use Rattle.cd_resolved.specs.Resolved.{program_of, program_graph, IsResolved};
 ghost use Rattle.cd_safety.specs.SafeProgram.{IsMain, IsDocument};
-ghost use Rattle.cd_running.specs.Inner.Inputs.{AnswersAsInput, AnswersAsArguments};
-ghost use Rattle.cd_running.specs.Inner.Inputs.{IsSoundSignature};
-ghost use Rattle.cd_running.specs.TypedProgram.{IsTypedProgram};
+ghost use Rattle.cd_running.specs.Inner.Inputs.{AnswersAsInput, AnswersAt, AnswersAtArguments};
+ghost use Rattle.cd_running.specs.Inner.Inputs.{TakeNodes};
 
 use cd_asking::{Maps, is_in};
 use cd_cells::{ValueId, Values};
-use cd_code::Code;
-use cd_empty::World;
-use cd_program::expr::{FunctionTree, Interface};
-use cd_resolve::error::NameError;
-use cd_resolve::{Names, resolve_type};
-use cd_syntax::type_tree::Tree;
+use cd_graph::Graph;
+use cd_program::expr::FunctionTree;
+use cd_resolved::Resolved;
+use cd_sets::node_id::NodeId;
 use std::alloc::{AllocError, Global};
 
 /// Whether a document is in the argument of an arrow of the function `main` of a program.
 pub(crate) fn is_input(
     alloc: Global,
-    world: &mut World,
-    names: &Names<'_>,
-    code: &Code<'_>,
+    program: &Resolved<'_>,
     values: &Values,
     value: ValueId,
 ) -> Result<bool, AllocError>
-    requires typed { IsTypedProgram (program_of code.now) }
-    requires declared { declared_by names.now ≡ (program_of code.now).types }
-    requires named { AreNamed (graph_of world.old) (plain_names names.now) }
+    requires resolved { IsResolved program.now }
     requires value { value.0 < length (table values.now) }
     requires document { IsDocument (thing_at (table values.now) value.0) }
-    ensures answer { IfOk result (λ answer. (main : AFunction)
-        → IsMain (program_of code.now) main
-        → AnswersAsInput (program_of code.now) main (thing_at (table values.now) value.0)
+    ensures { IfOk result (λ answer. (main : AFunction) → IsMain (program_of program.now) main
+        → AnswersAsInput (program_of program.now) main (thing_at (table values.now) value.0)
         answer) }
 {
-    match main_of(code) {
-        Some(main) => takes(alloc, world, names, &main.interface, values, value),
+    match main_of(program) {
+        Some(main) => {
+            let arrows = arrows_of(program, main);
+            takes(alloc, program.graph(), arrows, values, value)
+        }
         None => Ok(false),
     }
 }
 
 // The function that is declared as `main`.
-fn main_of<'p>(code: &Code<'p>) -> Option<&'p FunctionTree>
-    ensures main { (main : AFunction) → IsMain (program_of code.now) main
+fn main_of<'p>(program: &Resolved<'p>) -> Option<&'p FunctionTree>
+    ensures main { (main : AFunction) → IsMain (program_of program.now) main
         → option_map (λ f. plain_function f.now) result ≡ Some main }
-    ensures among { IfSome result (λ f. AnyOf (λ one. one ≡ plain_function f.now)
-        (all_functions (program_of code.now))) }
+    ensures among { IfSome result
+        (λ f. IsFunctionOf (program_of program.now) (plain_function f.now)) }
 {
-    match code.declared("main") {
-        Some(at) => code.function(at),
+    match program.declared("main") {
+        Some(at) => program.function(at),
         None => None,
     }
 }
 
-// Whether a document is in the argument of one of the arrows of an interface.
+// The nodes of the arrows of a function.
+fn arrows_of<'r>(program: &'r Resolved<'_>, function: &FunctionTree) -> &'r [(NodeId, NodeId)]
+    requires resolved { IsResolved program.now }
+    requires function { IsFunctionOf (program_of program.now) (plain_function function.now) }
+    ensures { AreArrows (scope_of (program_of program.now)) (program_graph program.now)
+        (interface_of (plain_function function.now)) result.now }
+{
+    let number = program.function_number(function);
+    program.interfaces()[number].arrows.as_slice()
+}
+
+// Whether a document is in what one of these arrows takes.
 fn takes(
     alloc: Global,
-    world: &mut World,
-    names: &Names<'_>,
-    interface: &Interface,
+    graph: &Graph,
+    arrows: &[(NodeId, NodeId)],
     values: &Values,
     value: ValueId,
 ) -> Result<bool, AllocError>
-    requires sound { AllOf (IsSoundSignature (declared_by names.now))
-        (plain_interface interface.now) }
-    requires names_sound { (fault : Fault) → IsFaultOfDeclarations (declared_by names.now) fault
-        → ⊥ }
-    requires named { AreNamed (graph_of world.old) (plain_names names.now) }
+    requires arrows { TakeNodes (nodes graph.now) arrows.now }
     requires value { value.0 < length (table values.now) }
     requires document { IsDocument (thing_at (table values.now) value.0) }
-    ensures answer { IfOk result (AnswersAsArguments (declared_by names.now ∷ [])
-        (thing_at (table values.now) value.0) (plain_interface interface.now)) }
+    ensures { IfOk result (AnswersAtArguments (nodes graph.now)
+        (thing_at (table values.now) value.0) arrows.now) }
 {
-    let mut left = interface.items();
+    let mut left = arrows;
     while let Some((arrow, rest)) = left.split_first() {
-        if is_of_type(alloc, world, names, &arrow.takes, values, value)? {
+        if is_in_node(alloc, graph, arrow.0, values, value)? {
             return Ok(true);
         }
         left = rest;
@@ -95,33 +93,21 @@ fn takes(
     Ok(false)
 }
 
-// Whether a document is in a type.
-fn is_of_type(
+// Whether a document is in a node.
+fn is_in_node(
     alloc: Global,
-    world: &mut World,
-    names: &Names<'_>,
-    written: &Tree,
+    graph: &Graph,
+    node: NodeId,
     values: &Values,
     value: ValueId,
 ) -> Result<bool, AllocError>
-    requires well_made { IsWellMade (plain written.now) }
-    requires names_sound { (fault : Fault) → IsFaultOfDeclarations (declared_by names.now) fault
-        → ⊥ }
-    requires sound { (fault : Fault)
-        → IsFaultOfType (declared_by names.now) (plain written.now) fault → ⊥ }
-    requires named { AreNamed (graph_of world.old) (plain_names names.now) }
+    requires node { node.0 < length (nodes graph.now) }
     requires value { value.0 < length (table values.now) }
     requires document { IsDocument (thing_at (table values.now) value.0) }
-    ensures answer { IfOk result (in_written (thing_at (table values.now) value.0)
-        (record { scope = declared_by names.now ∷ []; tree = plain written.now })) }
-    ensures named { AreNamed (graph_of world.new) (plain_names names.now) }
+    ensures { IfOk result (AnswersAt (nodes graph.now) (thing_at (table values.now) value.0)
+        node) }
 {
-    let batch = match resolve_type(alloc, world.graph(), names, written) {
-        Ok(batch) => batch,
-        Err(NameError::Memory) => return Err(AllocError),
-        Err(NameError::Fault { .. }) => unreachable!(),
-    };
-    world.extend(batch.formulas)?;
+    // A document holds no closure.
     let maps = Maps::new(alloc);
-    is_in(alloc, world.graph(), &maps, values, value, batch.root)
+    is_in(alloc, graph, &maps, values, value, node)
 }

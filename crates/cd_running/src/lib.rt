@@ -4,24 +4,28 @@
 ghost use Rattle.std.specs.Prelude.{◌≡◌, ◌<◌, [], ◌∷◌, length, IfOk};
 ghost use Rattle.cd_cells.specs.Cells.{thing_at};
 ghost use Rattle.cd_cells.specs.Table.{table};
-ghost use Rattle.cd_program.specs.PlainProgram.{plain_program};
+ghost use Rattle.cd_empty.specs.Seen.{graph_of};
+ghost use Rattle.cd_resolved.specs.Resolved.{program_of, IsResolved, Extends};
 ghost use Rattle.cd_safety.specs.SafeProgram.{IsDocument};
 ghost use Rattle.cd_replies.specs.Disk.{Disk, HasText};
 ghost use Rattle.cd_replies.specs.File.{ReadsAmong};
 ghost use Rattle.cd_replies.specs.Finishing.{Finishes};
 ghost use Rattle.cd_replies.specs.Message.{IsAnswer, reply_of};
+ghost use Rattle.cd_replies.specs.Texts.{ReadsAsProgram};
 ghost use Rattle.cd_running.specs.RunAnswer.{RunAnswer};
 ghost use Rattle.cd_running.specs.Inner.OnDocument.{OnDocument, OnValue};
 ghost use Rattle.cd_running.specs.TypedProgram.{IsTypedProgram};
 
 use cd_base::files::Files;
 use cd_cells::{ValueId, Values};
-use cd_checking::no_types;
-use cd_program::program::Program;
+use cd_check::world_of;
+use cd_checking::{no_types, resolved};
+use cd_empty::World;
 use cd_replies::document::read_document;
 use cd_replies::file::read_file;
 use cd_replies::message::{Message, no_text, not_input, refused};
 use cd_replies::reader::read_program;
+use cd_resolved::Resolved;
 use cd_safety::laws::typed_programs_have_main;
 use on_value::run_on;
 use running::reported;
@@ -79,26 +83,50 @@ fn with_file<F: Files>(
         Ok(program) => program,
         Err(error) => return refused(alloc, file, text, error),
     };
-    match no_types(alloc, file, text, &program)? {
-        None => with_types(alloc, files, &program, document, units),
+    let program = resolved(alloc, &program)?;
+    with_program(alloc, files, file, text, program, document, units)
+}
+
+// The answer where the text reads as this program.
+fn with_program<F: Files>(
+    alloc: Global,
+    files: &mut F,
+    file: &str,
+    text: &str,
+    program: Resolved<'_>,
+    document: &str,
+    units: u64,
+) -> Result<Message, AllocError>
+    requires reads { ReadsAsProgram text.now (program_of program) }
+    requires resolved { IsResolved program }
+    ensures { Finishes (λ disk reply. HasText disk file.now text.now
+        → RunAnswer disk units file.now document.now reply)
+        (F.state files.old) (F.state files.new) document.now result }
+{
+    let mut world = world_of(alloc, &program)?;
+    match no_types(alloc, &mut world, file, text, &program)? {
+        None => with_types(alloc, files, &mut world, program, document, units),
         Some(message) => Ok(message),
     }
 }
 
-// The answer where the program has types.
+// The answer where the program has types, in a world that begins with its nodes.
 fn with_types<F: Files>(
     alloc: Global,
     files: &mut F,
-    program: &Program,
+    world: &mut World,
+    program: Resolved<'_>,
     document: &str,
     units: u64,
 ) -> Result<Message, AllocError>
-    requires { IsTypedProgram (plain_program program.now) }
-    ensures { Finishes (OnDocument (plain_program program.now) units document.now)
+    requires typed { IsTypedProgram (program_of program) }
+    requires resolved { IsResolved program }
+    requires begins { Extends program (graph_of world.old) }
+    ensures { Finishes (OnDocument (program_of program.entry) units document.now)
         (F.state files.old) (F.state files.new) document.now result }
 {
     match read_file(files, document) {
-        Ok(text) => of_text(alloc, program, document, text.as_str(), units),
+        Ok(text) => of_text(alloc, world, program, document, text.as_str(), units),
         Err(error) => no_text(alloc, document, error),
     }
 }
@@ -106,18 +134,21 @@ fn with_types<F: Files>(
 // The answer on a document that has this text.
 fn of_text(
     alloc: Global,
-    program: &Program,
+    world: &mut World,
+    program: Resolved<'_>,
     document: &str,
     text: &str,
     units: u64,
 ) -> Result<Message, AllocError>
-    requires typed { IsTypedProgram (plain_program program.now) }
+    requires typed { IsTypedProgram (program_of program) }
+    requires resolved { IsResolved program }
+    requires begins { Extends program (graph_of world.old) }
     ensures { IfOk result (λ message. (disk : Disk) → HasText disk document.now text.now
-        → OnDocument (plain_program program.now) units document.now disk (reply_of message)) }
+        → OnDocument (program_of program.entry) units document.now disk (reply_of message)) }
 {
     let mut values = Values::new(alloc);
     match read_document(alloc, &mut values, text) {
-        Ok(value) => of_value(alloc, program, document, &mut values, value, units),
+        Ok(value) => of_value(alloc, world, program, document, &mut values, value, units),
         Err(error) => refused(alloc, document, text, error),
     }
 }
@@ -125,21 +156,24 @@ fn of_text(
 // The answer on a document with this value.
 fn of_value(
     alloc: Global,
-    program: &Program,
+    world: &mut World,
+    program: Resolved<'_>,
     document: &str,
     values: &mut Values,
     value: ValueId,
     units: u64,
 ) -> Result<Message, AllocError>
-    requires typed { IsTypedProgram (plain_program program.now) }
+    requires typed { IsTypedProgram (program_of program) }
+    requires resolved { IsResolved program }
+    requires begins { Extends program (graph_of world.old) }
     requires value { value.0 < length (table values.old) }
     requires document { IsDocument (thing_at (table values.old) value.0) }
-    ensures { IfOk result (λ message. OnValue (plain_program program.now) units document.now
+    ensures { IfOk result (λ message. OnValue (program_of program.entry) units document.now
         (thing_at (table values.old) value.0) (reply_of message)) }
 {
     // The contract of this call says that the program has a `main`.
     typed_programs_have_main();
-    match run_on(alloc, program, values, value, units)? {
+    match run_on(alloc, world, program, values, value, units)? {
         None => not_input(alloc, document),
         Some(ran) => reported(alloc, values, ran.outcome),
     }

@@ -20,7 +20,7 @@ module _ (graph more : Graph) (sound : IsGraph (graph ++ more)) (site : Site) wh
       ap (λ (g : Graph). g ++ more) is.begins.1 ∙ append_assoc built_ins is.begins.0 more,
     );
     sound = sound;
-    nodes = accepted_stays graph more (plain_kernel site.kernel) site.accepted.first is.nodes
+    nodes = accepted_stays graph more (plain_kernel site.kernel.now) site.accepted.first is.nodes
         is.begins.0 is.begins.1;
     root = is.root;
   }

@@ -38,7 +38,7 @@ use Rattle.cd_sites.proofs.RightTests.{nil_is}
 module _ (graph : Graph) (scope : Scope) (written : Tree) (site : Site)
     (is : IsSite graph scope written site) where
   abbrev kernel : Kernel NodeId
-  kernel = plain_kernel site.kernel
+  kernel = plain_kernel site.kernel.now
 
   abbrev Takes : Thing → Option (Captures Name) → Type 0
   Takes = WrittenTakes scope written

@@ -1,4 +1,3 @@
 -- What serves proofs and private functions. No public clause speaks of it.
-pub mod Kernels
 pub mod Differences
 pub mod Members

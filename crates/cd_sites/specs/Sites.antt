@@ -19,8 +19,8 @@ use Rattle.cd_sites.specs.declared.site.Site.{Site}
 pub record IsAccepted (graph : Graph) (site : Site) : Type 0 where
   pub begins : (more : Graph) × (graph ≡ built_ins ++ more)
   pub sound : IsGraph graph
-  pub nodes : IsAcceptedFrom graph (plain_kernel site.kernel) site.accepted.first
-  pub root : site.accepted.root ≡ place site.accepted.first site.kernel.root
+  pub nodes : IsAcceptedFrom graph (plain_kernel site.kernel.now) site.accepted.first
+  pub root : site.accepted.root ≡ place site.accepted.first site.kernel.now.root
 
 -- and its kernel takes what the written pattern takes, no variable of which is at fault
 pub record IsSite (graph : Graph) (scope : Scope) (written : Tree) (site : Site) : Type 0 where
@@ -28,4 +28,4 @@ pub record IsSite (graph : Graph) (scope : Scope) (written : Tree) (site : Site)
   pub pattern : Pattern NodeId
   pub resolved : IsResolved graph pattern scope written
   pub named : IsNamed (pattern_of scope written)
-  pub alike : TakesAlike pattern (plain_kernel site.kernel)
+  pub alike : TakesAlike pattern (plain_kernel site.kernel.now)

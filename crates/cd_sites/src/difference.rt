@@ -36,11 +36,11 @@ pub(crate) fn difference(
 {
     // The contract of this call says that the graph begins with the built-in nodes.
     world.graph();
-    if are_disjoint(alloc, world, one, other)? {
-        return Ok(one);
-    }
     if is_within(world, one, other)? {
         return Ok(EMPTY);
+    }
+    if are_disjoint(alloc, world, one, other)? {
+        return Ok(one);
     }
     new_difference(alloc, world, one, other)
 }

@@ -26,7 +26,7 @@ pub fn remaining(
     alloc: Global,
     world: &mut World,
     matched: NodeId,
-    site: &Site,
+    site: &Site<'_>,
 ) -> Result<NodeId, AllocError>
     requires site { IsAccepted (graph_of world.old) site.now }
     requires matched { matched.0 < length (graph_of world.old) }

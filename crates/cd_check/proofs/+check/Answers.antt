@@ -1,6 +1,6 @@
 use Rattle.cd_apply.specs.Applications.{IsResultNode, AreMappedInto, AreResultsAlone, NamesNoFunction, NamesOutside}
 use Rattle.cd_apply.specs.declared.application.Applied.{Applied}
-use Rattle.cd_check.proofs.After.{after_both, after_grown, after_later, after_none, after_same, after_growing}
+use Rattle.cd_check.proofs.After.{after_both, after_grown, after_later, after_none, after_same, after_step}
 use Rattle.cd_check.proofs.ArgumentFaults.{no_function, outside_domain}
 use Rattle.cd_check.proofs.Arguments.{argument_follows, tail_follows}
 use Rattle.cd_check.proofs.ArgumentsLeast.{apply_least, narrows_first, one_argument_narrows, all_arguments_narrow}
@@ -8,7 +8,7 @@ use Rattle.cd_check.proofs.ArgumentsLeast.{chain_least, one_tail_narrows, all_ta
 use Rattle.cd_check.proofs.ArrowFaults.{arrow_uncovered, arrow_body_fault, within_result}
 use Rattle.cd_check.proofs.ArrowsKept.{KeptAt}
 use Rattle.cd_check.proofs.BodiesChecked.{body_is_sound, one_gives, limit_later, nothing_comes, something_comes}
-use Rattle.cd_check.proofs.BodiesChecked.{later_two, ready_all, after_all, none_gives}
+use Rattle.cd_check.proofs.BodiesChecked.{ready_all, after_all, none_gives}
 use Rattle.cd_check.proofs.BodiesDone.{Done, there, is_sound, one_done, all_done, is_sited, matched_below, none_done}
 use Rattle.cd_check.proofs.BodiesDone.{all_done_least, one_failed}
 use Rattle.cd_check.proofs.BodyTaken.{taken_known, taken_fails, beyond_fails}
@@ -22,7 +22,7 @@ use Rattle.cd_check.proofs.BranchesGiven.{sequences_within}
 use Rattle.cd_check.proofs.ChainFaults.{apply_fails, faults_first, one_argument_faults, all_arguments_fail}
 use Rattle.cd_check.proofs.ChainFaults.{chain_fails, one_tail_faults, all_tails_fail}
 use Rattle.cd_check.proofs.Decided.{site_decides}
-use Rattle.cd_check.proofs.Divided.{none_takes_earlier, one_untaken, they_cover, last_node, all_sited_later}
+use Rattle.cd_check.proofs.Divided.{none_takes_earlier, one_untaken, they_cover, last_node}
 use Rattle.cd_check.proofs.Divided.{sited_later, none_takes}
 use Rattle.cd_check.proofs.ExprViews.{item_one, item_splice, tail_without, tail_select}
 use Rattle.cd_check.proofs.FewerOperands.{operand_gives}
@@ -30,9 +30,9 @@ use Rattle.cd_check.proofs.FormsWithBranches.{let_gives_none, try_gives, match_g
 use Rattle.cd_check.proofs.FormsWithBranches.{let_gives}
 use Rattle.cd_check.proofs.FromReady.{type_in}
 use Rattle.cd_check.proofs.FunctionsBelow.{function_below}
-use Rattle.cd_check.proofs.FunctionsFailed.{promise_failed, function_failed}
+use Rattle.cd_check.proofs.FunctionsFailed.{promise_failed}
 use Rattle.cd_check.proofs.FunctionsKept.{arrow_given, arrows_below, at_any, pair_at, one_kept, promise_kept}
-use Rattle.cd_check.proofs.FunctionsKept.{function_gives, patterns_sound, branches_sound, function_sound}
+use Rattle.cd_check.proofs.FunctionsKept.{function_gives, patterns_sound, branches_sound, function_within}
 use Rattle.cd_check.proofs.FunctionsKept.{ready_named, whole_below}
 use Rattle.cd_check.proofs.GivesSame.{gives_same}
 use Rattle.cd_check.proofs.KindViews.{kind_constant, kind_variable}
@@ -51,7 +51,7 @@ use Rattle.cd_check.proofs.OperandsMade.{xml_gives, within_atom, within_record}
 use Rattle.cd_check.proofs.OperandsTyped.{item_steps, splice_steps}
 use Rattle.cd_check.proofs.OperatorsLeast.{applied_least, operated_least}
 use Rattle.cd_check.proofs.Places.{place_is}
-use Rattle.cd_check.proofs.ProgramViews.{field_expr, branch_body, function_promise, function_is}
+use Rattle.cd_check.proofs.ProgramViews.{field_expr, branch_body, function_is}
 use Rattle.cd_check.proofs.ReadyLater.{later_of, ready_later, tools_later}
 use Rattle.cd_check.proofs.RecordsLabelled.{are_labels, are_once, parts_count}
 use Rattle.cd_check.proofs.SidesHeld.{holds_earlier}
@@ -78,7 +78,7 @@ use Rattle.cd_check.specs.Inner.GoingOn.{GoesOn, LeadsOn, listed, Steps}
 use Rattle.cd_check.specs.Inner.Known.{IsKnown, IsBelow, Fails, IsOutside}
 use Rattle.cd_check.specs.Inner.LeastNodes.{KindLeast, TailLeast}
 use Rattle.cd_check.specs.Inner.Promises.{ArePairs}
-use Rattle.cd_check.specs.Inner.Ready.{IsAfter, seen_by, scope_of, declarations_of, names_seen}
+use Rattle.cd_check.specs.Inner.Ready.{IsAfter, seen_by, scope_of, program_of, names_seen}
 use Rattle.cd_check.specs.Inner.Sides.{HoldsSome, truth_node, IsInEither}
 use Rattle.cd_check.specs.Inner.SoundNames.{FieldsAreSound, ItemsAreSound, AreSound, IsSound, TailsAreSound}
 use Rattle.cd_check.specs.Inner.SoundNames.{KindIsSound}
@@ -104,7 +104,7 @@ use Rattle.cd_model.specs.Formula.{Graph}
 use Rattle.cd_names.proofs.ExprSizes.{size, size_exprs, size_item, size_items, size_fields, size_tail, size_tails}
 use Rattle.cd_names.proofs.ExprSizes.{size_branches, exprs_fall, items_fall, fields_fall, tails_fall, branches_fall}
 use Rattle.cd_names.proofs.ExprSizes.{size_function}
-use Rattle.cd_names.specs.ProgramFaults.{names_of, with_name}
+use Rattle.cd_names.specs.ProgramFaults.{names_of}
 use Rattle.cd_program.specs.Expr.{ABranch, NoBranch, Map, Transform, AnItem, One, Splice, items_of, branches_of}
 use Rattle.cd_program.specs.Expr.{Apply, Without, Select, Operand, Tails, tails_of, Kind, Exprs, exprs_of, Fields}
 use Rattle.cd_program.specs.Expr.{fields_of, Tail, Items, Expr, Item, Call}
@@ -470,12 +470,12 @@ operands::check_item-returns-in_ok-need_at-in-Splice-clause-gives t c =
 
 pub operands::check_record-record-requires-clause-labels : goal.operands::check_record-record-requires-clause-labels
 operands::check_record-record-requires-clause-labels t c = subst (λ (fields : Fields). AreLabels fields) (sym c.items.ensures)
-    (are_labels (declarations_of c.args.base.now) (names_seen c.args.base.now c.args.locals.now) (plain_fields c.args.fields.now)
+    (are_labels (program_of c.args.base.now) (names_seen c.args.base.now c.args.locals.now) (plain_fields c.args.fields.now)
     c.requires.sound)
 
 pub operands::check_record-record-requires-clause-differ : goal.operands::check_record-record-requires-clause-differ
 operands::check_record-record-requires-clause-differ t c = subst (λ (fields : Fields). AreOnce (labels_of fields)) (sym c.items.ensures)
-    (are_once (declarations_of c.args.base.now) (names_seen c.args.base.now c.args.locals.now) (plain_fields c.args.fields.now)
+    (are_once (program_of c.args.base.now) (names_seen c.args.base.now c.args.locals.now) (plain_fields c.args.fields.now)
     c.requires.sound)
 
 pub operands::check_record-record-requires-clause-count : goal.operands::check_record-record-requires-clause-count
@@ -636,7 +636,7 @@ expr::check_kind-unreachable-requires t c =
     let locals = c.args.locals.now in
     let name = c.in-Variable.name in
     seen_has_node (seen_by base locals) name
-    (subst (λ (kind : Kind). KindIsSound (declarations_of base) (names_seen base locals) kind)
+    (subst (λ (kind : Kind). KindIsSound (program_of base) (names_seen base locals) kind)
     (ap plain_kind c.in-Variable.is ∙ kind_variable name) c.requires.sound)
     (sym c.find.ensures ∙ c.in-None.is)
 
@@ -988,8 +988,8 @@ branches::check_match-returns-clause-gives t c = IfOk-weaker c.check_covering.re
     gives.cover gives.have_types)
     c.check_covering.ensures.gives
 
-pub branches::check_covering-sites_of-requires-clause-patterns : goal.branches::check_covering-sites_of-requires-clause-patterns
-branches::check_covering-sites_of-requires-clause-patterns t c = patterns_sound (declarations_of c.args.base.now)
+pub branches::check_covering-divide-requires-clause-branches : goal.branches::check_covering-divide-requires-clause-branches
+branches::check_covering-divide-requires-clause-branches t c = patterns_sound (program_of c.args.base.now)
     (names_seen c.args.base.now c.args.locals.now) (plain_branches c.args.branches.now) c.requires.branches
 
 pub branches::check_covering-cover-requires : goal.branches::check_covering-cover-requires
@@ -1001,7 +1001,7 @@ branches::check_covering-cover-requires t c = record {
 
 pub branches::check_covering-union-requires : goal.branches::check_covering-union-requires
 branches::check_covering-union-requires t c = subst (λ (ids : List NodeId). AllOf (λ id. id.0 < length (graph_of c.check_bodies.new.world)) ids)
-    (sym c.as_slice-2.ensures.value)
+    (sym c.as_slice.ensures.value)
     c.in_ok-results.ensures.gives.are_nodes
 
 pub branches::check_covering-returns-clause-after : goal.branches::check_covering-returns-clause-after
@@ -1009,16 +1009,13 @@ branches::check_covering-returns-clause-after t c = (after_grown c.args.base.now
     c.union.new.world
     (after_both c.args.base.now c.args.locals.now (graph_of c.args.world.now) (graph_of c.cover.new.world)
     (graph_of c.check_bodies.new.world)
-    (after_growing c.args.base.now c.args.locals.now c.args.world.now c.sites_of.new.world c.divide.new.world
-    c.requires.ready c.sites_of.ensures.grows c.sites_of.ensures.sound c.divide.ensures.grows c.divide.ensures.sound
+    (after_step c.args.base.now c.args.locals.now c.args.world.now c.divide.new.world c.requires.ready c.divide.ensures.grows c.divide.ensures.sound
     (graph_of c.cover.new.world) c.cover.ensures.graph) c.in_ok-results.ensures.after)
     c.union.ensures.grows c.union.ensures.sound)
 
 pub branches::check_covering-returns-clause-gives : goal.branches::check_covering-returns-clause-gives
 branches::check_covering-returns-clause-gives t c =
-    let is = (later_two c.args.world.now c.sites_of.new.world c.divide.new.world c.sites_of.ensures.grows
-    c.sites_of.ensures.sound
-    c.divide.ensures.grows c.divide.ensures.sound) in
+    let is = (later_of c.args.world.now c.divide.new.world c.divide.ensures.grows c.divide.ensures.sound) in
     covering_gives c.args.base.now c.args.locals.now (graph_of c.args.world.now) (plain_branches c.args.branches.now)
     c.args.matched
     (cover_earlier c.args.base.now c.args.locals.now (graph_of c.args.world.now) c.requires.ready (graph_of c.divide.new.world)
@@ -1028,7 +1025,7 @@ branches::check_covering-returns-clause-gives t c =
     (they_cover (graph_of c.divide.new.world) (scope_of c.args.base.now) (plain_branches c.args.branches.now)
     c.in_ok-division.division.matched
     c.in_ok-division.division.comings.items c.in_ok-division.division.rest
-    (c.in_ok-division.ensures.patterns ∙ ap (map sited_pattern) c.as_slice.ensures.value ∙ c.in_ok-sites.ensures.patterns)
+    (c.in_ok-division.ensures.patterns)
     c.in_ok-division.ensures.division c.in_ok-cover.ensures.nothing))
     (graph_of c.check_bodies.new.world) c.in_ok-results.results.items
     (bodies_earlier c.args.base.now c.args.locals.now (graph_of c.args.world.now) c.requires.ready
@@ -1042,54 +1039,51 @@ branches::check_covering-returns-clause-gives t c =
     (after_grown c.args.base.now c.args.locals.now (graph_of c.args.world.now) c.check_bodies.new.world c.union.new.world
     (after_both c.args.base.now c.args.locals.now (graph_of c.args.world.now) (graph_of c.cover.new.world)
     (graph_of c.check_bodies.new.world)
-    (after_growing c.args.base.now c.args.locals.now c.args.world.now c.sites_of.new.world c.divide.new.world
-    c.requires.ready c.sites_of.ensures.grows c.sites_of.ensures.sound c.divide.ensures.grows c.divide.ensures.sound
+    (after_step c.args.base.now c.args.locals.now c.args.world.now c.divide.new.world c.requires.ready c.divide.ensures.grows c.divide.ensures.sound
     (graph_of c.cover.new.world) c.cover.ensures.graph) c.in_ok-results.ensures.after)
     c.union.ensures.grows c.union.ensures.sound).ready
     c.in_ok-union.field-0 c.in_ok-union.ensures.node)
     (subst (λ (ids : List NodeId). IsInOne (map (typ (graph_of c.check_bodies.new.world)) ids) ⊆ elements_of
     (graph_of c.union.new.world) c.in_ok-union.field-0)
-    c.as_slice-2.ensures.value c.in_ok-union.ensures.has)
+    c.as_slice.ensures.value c.in_ok-union.ensures.has)
 
-pub branches::check_some-sites_of-requires-clause-patterns : goal.branches::check_some-sites_of-requires-clause-patterns
-branches::check_some-sites_of-requires-clause-patterns t c = patterns_sound (declarations_of c.args.base.now)
+pub branches::check_some-divide-requires-clause-branches : goal.branches::check_some-divide-requires-clause-branches
+branches::check_some-divide-requires-clause-branches t c = patterns_sound (program_of c.args.base.now)
     (names_seen c.args.base.now c.args.locals.now) (plain_branches c.args.branches.now) c.requires.branches
 
 pub branches::check_some-returns-clause-after : goal.branches::check_some-returns-clause-after
 branches::check_some-returns-clause-after t c = on_ok_weaker c.check_bodies.result
     (λ after. after_both c.args.base.now c.args.locals.now (graph_of c.args.world.now) (graph_of c.divide.new.world)
     (graph_of c.check_bodies.new.world)
-    (after_growing c.args.base.now c.args.locals.now c.args.world.now c.sites_of.new.world c.divide.new.world
-    c.requires.ready c.sites_of.ensures.grows c.sites_of.ensures.sound c.divide.ensures.grows c.divide.ensures.sound
+    (after_step c.args.base.now c.args.locals.now c.args.world.now c.divide.new.world c.requires.ready c.divide.ensures.grows c.divide.ensures.sound
     (graph_of c.divide.new.world) refl) after) c.check_bodies.ensures.after
 
 pub branches::check_some-returns-clause-gives : goal.branches::check_some-returns-clause-gives
 branches::check_some-returns-clause-gives t c = IfOk-weaker c.check_bodies.result _ _
     (λ results gives. bodies_earlier c.args.base.now c.args.locals.now (graph_of c.args.world.now) c.requires.ready
     (graph_of c.divide.new.world)
-    (later_two c.args.world.now c.sites_of.new.world c.divide.new.world c.sites_of.ensures.grows c.sites_of.ensures.sound
-    c.divide.ensures.grows c.divide.ensures.sound) c.args.matched c.requires.matched (plain_branches c.args.branches.now)
+    (later_of c.args.world.now c.divide.new.world c.divide.ensures.grows c.divide.ensures.sound) c.args.matched c.requires.matched (plain_branches c.args.branches.now)
     (graph_of c.divide.new.world) refl
     c.in_ok-division.division.matched c.in_ok-division.ensures.matched (graph_of c.check_bodies.new.world) results.items gives)
     c.check_bodies.ensures.gives
+
+pub branches::check_let-remaining-requires-clause-site : goal.branches::check_let-remaining-requires-clause-site
+branches::check_let-remaining-requires-clause-site t c = (c.site_at-sited.ensures.sited (graph_of c.check.new.world)
+    (scope_of c.args.base.now) c.in_ok-matched.ensures.after.ready.sited).site.accepted
 
 pub branches::check_let-returns-in-Some-clause-after : goal.branches::check_let-returns-in-Some-clause-after
 branches::check_let-returns-in-Some-clause-after t c = (after_both c.args.base.now c.args.locals.now (graph_of c.args.world.now)
     (graph_of c.check.new.world) (graph_of c.check_body.new.world) c.in_ok-matched.ensures.after
     (after_both c.args.base.now c.args.locals.now (graph_of c.check.new.world) (graph_of c.cover.new.world)
-    (graph_of c.check_body.new.world) (after_growing c.args.base.now c.args.locals.now c.check.new.world c.with_site.new.world
-    c.remaining.new.world c.in_ok-matched.ensures.after.ready
-    c.with_site.ensures.grows c.with_site.ensures.sound c.remaining.ensures.grows c.remaining.ensures.sound
+    (graph_of c.check_body.new.world) (after_step c.args.base.now c.args.locals.now c.check.new.world c.remaining.new.world c.in_ok-matched.ensures.after.ready c.remaining.ensures.grows c.remaining.ensures.sound
     (graph_of c.cover.new.world) c.cover.ensures.graph)
     c.in_ok-id.ensures.after))
 
-pub branches::check_let-returns-clause-after : goal.branches::check_let-returns-clause-after
-branches::check_let-returns-clause-after t c = (after_both c.args.base.now c.args.locals.now (graph_of c.args.world.now) (graph_of c.check.new.world)
+pub branches::check_let-returns-in-None-clause-after : goal.branches::check_let-returns-in-None-clause-after
+branches::check_let-returns-in-None-clause-after t c = (after_both c.args.base.now c.args.locals.now (graph_of c.args.world.now) (graph_of c.check.new.world)
     (graph_of c.check_body.new.world) c.in_ok-matched.ensures.after
     (after_both c.args.base.now c.args.locals.now (graph_of c.check.new.world) (graph_of c.cover.new.world)
-    (graph_of c.check_body.new.world) (after_growing c.args.base.now c.args.locals.now c.check.new.world c.with_site.new.world
-    c.remaining.new.world c.in_ok-matched.ensures.after.ready
-    c.with_site.ensures.grows c.with_site.ensures.sound c.remaining.ensures.grows c.remaining.ensures.sound
+    (graph_of c.check_body.new.world) (after_step c.args.base.now c.args.locals.now c.check.new.world c.remaining.new.world c.in_ok-matched.ensures.after.ready c.remaining.ensures.grows c.remaining.ensures.sound
     (graph_of c.cover.new.world) c.cover.ensures.graph)
     c.in_ok-id.ensures.after))
 
@@ -1098,66 +1092,60 @@ branches::check_let-returns-in-Some-clause-gives t c = let_gives (scope_of c.arg
     (seen_by c.args.base.now c.args.locals.now) c.requires.ready.nodes
     (plain c.args.value.now) c.in_ok-matched.matched (graph_of c.check.new.world) c.in_ok-matched.ensures.after.later
     c.in_ok-matched.ensures.gives
-    (graph_of c.remaining.new.world) (later_two c.check.new.world c.with_site.new.world c.remaining.new.world
-    c.with_site.ensures.grows c.with_site.ensures.sound
-    c.remaining.ensures.grows c.remaining.ensures.sound) c.in_ok-matched.ensures.after.ready.nodes
+    (graph_of c.remaining.new.world) (later_of c.check.new.world c.remaining.new.world c.remaining.ensures.grows c.remaining.ensures.sound) c.in_ok-matched.ensures.after.ready.nodes
     (plain_tree c.args.pattern.now) (plain c.args.rest.now)
-    (site_decides (graph_of c.with_site.new.world) (scope_of c.args.base.now) (plain_tree c.args.pattern.now)
-    c.in_ok-sited.sited.site (subst (λ (tree : Tree). IsSite (graph_of c.with_site.new.world) (scope_of c.args.base.now) tree
-    c.in_ok-sited.sited.site) c.in_ok-sited.ensures.pattern
-    c.in_ok-sited.ensures.sited.site))
-    (none_passes (graph_of c.check.new.world) (graph_of c.with_site.new.world) (graph_of c.remaining.new.world)
-    (later_of c.check.new.world c.with_site.new.world c.with_site.ensures.grows c.with_site.ensures.sound)
-    c.in_ok-matched.ensures.after.later.sound c.in_ok-matched.matched c.in_ok-matched.ensures.gives.is_type.is_node
+    (site_decides (graph_of c.check.new.world) (scope_of c.args.base.now) (plain_tree c.args.pattern.now)
+    c.site_at-sited.result.now.site (subst (λ (tree : Tree). IsSite (graph_of c.check.new.world) (scope_of c.args.base.now) tree
+    c.site_at-sited.result.now.site) c.site_at-sited.ensures.pattern
+    (c.site_at-sited.ensures.sited (graph_of c.check.new.world) (scope_of c.args.base.now)
+    c.in_ok-matched.ensures.after.ready.sited).site))
+    (none_passes (graph_of c.check.new.world) (graph_of c.remaining.new.world) c.in_ok-matched.matched
     (scope_of c.args.base.now) (plain_tree c.args.pattern.now) c.in_ok-left.left
     (c.in_ok-left.ensures.all_left (scope_of c.args.base.now) (plain_tree c.args.pattern.now)
-    (subst (λ (tree : Tree). IsSite (graph_of c.with_site.new.world) (scope_of c.args.base.now) tree c.in_ok-sited.sited.site)
-    c.in_ok-sited.ensures.pattern
-    c.in_ok-sited.ensures.sited.site))
+    (subst (λ (tree : Tree). IsSite (graph_of c.check.new.world) (scope_of c.args.base.now) tree c.site_at-sited.result.now.site)
+    c.site_at-sited.ensures.pattern
+    (c.site_at-sited.ensures.sited (graph_of c.check.new.world) (scope_of c.args.base.now)
+    c.in_ok-matched.ensures.after.ready.sited).site))
     c.in_ok-cover.ensures.nothing)
     (graph_of c.check_body.new.world) c.in-Some.id
     (body_moved (scope_of c.args.base.now) (seen_by c.args.base.now c.args.locals.now) (graph_of c.check_body.new.world)
     c.in_ok-matched.matched (plain c.args.rest.now) (graph_of c.cover.new.world) (graph_of c.remaining.new.world)
-    c.cover.ensures.graph (sited_pattern c.in_ok-sited.sited) (plain_tree c.args.pattern.now) c.in_ok-sited.ensures.pattern
+    c.cover.ensures.graph (sited_pattern c.site_at-sited.result.now) (plain_tree c.args.pattern.now) c.site_at-sited.ensures.pattern
     c.in_ok-id.field-0 (Some c.in-Some.id) c.in-Some.is c.in_ok-id.ensures.gives)
 
-pub branches::check_let-returns-clause-gives : goal.branches::check_let-returns-clause-gives
-branches::check_let-returns-clause-gives t c =
+pub branches::check_let-returns-in-None-clause-gives : goal.branches::check_let-returns-in-None-clause-gives
+branches::check_let-returns-in-None-clause-gives t c =
     let after = (after_both c.args.base.now c.args.locals.now (graph_of c.args.world.now) (graph_of c.check.new.world)
     (graph_of c.check_body.new.world) c.in_ok-matched.ensures.after
     (after_both c.args.base.now c.args.locals.now (graph_of c.check.new.world) (graph_of c.cover.new.world)
-    (graph_of c.check_body.new.world) (after_growing c.args.base.now c.args.locals.now c.check.new.world c.with_site.new.world
-    c.remaining.new.world c.in_ok-matched.ensures.after.ready
-    c.with_site.ensures.grows c.with_site.ensures.sound c.remaining.ensures.grows c.remaining.ensures.sound
+    (graph_of c.check_body.new.world) (after_step c.args.base.now c.args.locals.now c.check.new.world c.remaining.new.world c.in_ok-matched.ensures.after.ready c.remaining.ensures.grows c.remaining.ensures.sound
     (graph_of c.cover.new.world) c.cover.ensures.graph)
     c.in_ok-id.ensures.after)) in
     let_gives_none (scope_of c.args.base.now) (graph_of c.args.world.now) c.requires.ready.sound
     (seen_by c.args.base.now c.args.locals.now) c.requires.ready.nodes
     (plain c.args.value.now) c.in_ok-matched.matched (graph_of c.check.new.world) c.in_ok-matched.ensures.after.later
     c.in_ok-matched.ensures.gives
-    (graph_of c.remaining.new.world) (later_two c.check.new.world c.with_site.new.world c.remaining.new.world
-    c.with_site.ensures.grows c.with_site.ensures.sound
-    c.remaining.ensures.grows c.remaining.ensures.sound) c.in_ok-matched.ensures.after.ready.nodes
+    (graph_of c.remaining.new.world) (later_of c.check.new.world c.remaining.new.world c.remaining.ensures.grows c.remaining.ensures.sound) c.in_ok-matched.ensures.after.ready.nodes
     (plain_tree c.args.pattern.now) (plain c.args.rest.now)
-    (site_decides (graph_of c.with_site.new.world) (scope_of c.args.base.now) (plain_tree c.args.pattern.now)
-    c.in_ok-sited.sited.site (subst (λ (tree : Tree). IsSite (graph_of c.with_site.new.world) (scope_of c.args.base.now) tree
-    c.in_ok-sited.sited.site) c.in_ok-sited.ensures.pattern
-    c.in_ok-sited.ensures.sited.site))
-    (none_passes (graph_of c.check.new.world) (graph_of c.with_site.new.world) (graph_of c.remaining.new.world)
-    (later_of c.check.new.world c.with_site.new.world c.with_site.ensures.grows c.with_site.ensures.sound)
-    c.in_ok-matched.ensures.after.later.sound c.in_ok-matched.matched c.in_ok-matched.ensures.gives.is_type.is_node
+    (site_decides (graph_of c.check.new.world) (scope_of c.args.base.now) (plain_tree c.args.pattern.now)
+    c.site_at-sited.result.now.site (subst (λ (tree : Tree). IsSite (graph_of c.check.new.world) (scope_of c.args.base.now) tree
+    c.site_at-sited.result.now.site) c.site_at-sited.ensures.pattern
+    (c.site_at-sited.ensures.sited (graph_of c.check.new.world) (scope_of c.args.base.now)
+    c.in_ok-matched.ensures.after.ready.sited).site))
+    (none_passes (graph_of c.check.new.world) (graph_of c.remaining.new.world) c.in_ok-matched.matched
     (scope_of c.args.base.now) (plain_tree c.args.pattern.now) c.in_ok-left.left
     (c.in_ok-left.ensures.all_left (scope_of c.args.base.now) (plain_tree c.args.pattern.now)
-    (subst (λ (tree : Tree). IsSite (graph_of c.with_site.new.world) (scope_of c.args.base.now) tree c.in_ok-sited.sited.site)
-    c.in_ok-sited.ensures.pattern
-    c.in_ok-sited.ensures.sited.site))
+    (subst (λ (tree : Tree). IsSite (graph_of c.check.new.world) (scope_of c.args.base.now) tree c.site_at-sited.result.now.site)
+    c.site_at-sited.ensures.pattern
+    (c.site_at-sited.ensures.sited (graph_of c.check.new.world) (scope_of c.args.base.now)
+    c.in_ok-matched.ensures.after.ready.sited).site))
     c.in_ok-cover.ensures.nothing)
     (graph_of c.check_body.new.world) EMPTY
     (type_in c.args.base.now (graph_of c.check_body.new.world) c.args.locals.now after.ready EMPTY
     (built_in_below c.args.base.now (graph_of c.check_body.new.world) c.args.locals.now after.ready EMPTY (lit< tt)))
     (body_moved (scope_of c.args.base.now) (seen_by c.args.base.now c.args.locals.now) (graph_of c.check_body.new.world)
     c.in_ok-matched.matched (plain c.args.rest.now) (graph_of c.cover.new.world) (graph_of c.remaining.new.world)
-    c.cover.ensures.graph (sited_pattern c.in_ok-sited.sited) (plain_tree c.args.pattern.now) c.in_ok-sited.ensures.pattern
+    c.cover.ensures.graph (sited_pattern c.site_at-sited.result.now) (plain_tree c.args.pattern.now) c.site_at-sited.ensures.pattern
     c.in_ok-id.field-0 None c.in-None.is c.in_ok-id.ensures.gives)
 
 pub branches::check_try-union-requires : goal.branches::check_try-union-requires
@@ -1429,45 +1417,25 @@ bodies::check_body-returns-in_ok-keep_limit-in-Some-clause-after t c = after_sam
     (later_of c.args.world.now c.captures-2.new.world c.captures-2.ensures.grows c.captures-2.ensures.sound)
     c.in_ok-id-in-Some.ensures.after) c.keep_limit.ensures.graph
 
-pub function::check_function-promise_of-requires-clause-sound : goal.function::check_function-promise_of-requires-clause-sound
-function::check_function-promise_of-requires-clause-sound t c = (function_sound (declarations_of c.args.base.now)
-    (names_seen c.args.base.now c.args.locals.now)
-    c.args.function.now c.requires.sound).0
-
-pub function::check_function-returns-clause-after : goal.function::check_function-returns-clause-after
-function::check_function-returns-clause-after t c = after_both c.args.base.now c.args.locals.now (graph_of c.args.world.now)
-    (graph_of c.promise_of.new.world)
-    (graph_of c.check_promise.new.world)
-    (after_grown c.args.base.now c.args.locals.now (graph_of c.args.world.now) c.args.world.now
-    c.promise_of.new.world (after_none c.args.base.now c.args.locals.now (graph_of c.args.world.now) c.requires.ready)
-    c.promise_of.ensures.grows c.promise_of.ensures.sound) c.in_ok-check_promise.ensures.after
+pub function::check_function-nodes_of-nodes-requires-clause-function : goal.function::check_function-nodes_of-nodes-requires-clause-function
+function::check_function-nodes_of-nodes-requires-clause-function t c = function_within (program_of c.args.base.now)
+    (names_seen c.args.base.now c.args.locals.now) (plain_function c.args.function.now) c.requires.sound
 
 pub function::check_function-returns-clause-gives : goal.function::check_function-returns-clause-gives
 function::check_function-returns-clause-gives t c = function_gives c.args.base.now (graph_of c.args.world.now) c.args.locals.now c.requires.ready
-    (graph_of c.promise_of.new.world) (graph_of c.check_promise.new.world)
-    (later_of c.args.world.now c.promise_of.new.world c.promise_of.ensures.grows c.promise_of.ensures.sound)
-    c.in_ok-check_promise.ensures.after (plain_function c.args.function.now) c.in_ok-promise.promise
-    (function_promise (scope_of c.args.base.now) (graph_of c.promise_of.new.world) c.args.function.now
-    c.in_ok-promise.promise.arrows.items c.in_ok-promise.promise.whole c.in_ok-promise.ensures.promise)
+    (graph_of c.check_promise.new.world) c.in_ok-check_promise.ensures.after (plain_function c.args.function.now) c.nodes_of-nodes.result.now
+    (c.nodes_of-nodes.ensures (scope_of c.args.base.now) (graph_of c.args.world.now)
+    c.requires.ready.promised)
     c.in_ok-check_promise.ensures.kept
-
-pub function::check_promise-sites_of-requires-clause-patterns : goal.function::check_promise-sites_of-requires-clause-patterns
-function::check_promise-sites_of-requires-clause-patterns t c = patterns_sound (declarations_of c.args.base.now)
-    (with_name (out-FunctionTree c.args.function.now).name (names_seen c.args.base.now c.args.locals.now))
-    (plain_branches (out-FunctionTree c.args.function.now).branches)
-    (function_sound (declarations_of c.args.base.now) (names_seen c.args.base.now c.args.locals.now) c.args.function.now
-    c.requires.sound).1
 
 pub function::check_promise-loop-argument-init : goal.function::check_promise-loop-argument-init
 function::check_promise-loop-argument-init t c = (
-  after_grown c.args.base.now c.in_ok-inner.inner.items (graph_of c.args.world.now) c.args.world.now c.sites_of.new.world
-      (after_none c.args.base.now c.in_ok-inner.inner.items (graph_of c.args.world.now)
+  after_none c.args.base.now c.in_ok-inner.inner.items (graph_of c.args.world.now)
       (ready_named c.args.base.now (graph_of c.args.world.now) c.args.locals.now (out-FunctionTree c.args.function.now).name
-      c.args.promise.now.whole c.in_ok-inner.inner.items
+      c.args.nodes.now.whole c.in_ok-inner.inner.items
       c.in_ok-inner.ensures (whole_below (scope_of c.args.base.now) (graph_of c.args.world.now)
-      (plain_function c.args.function.now) c.args.promise.now.arrows.items c.args.promise.now.whole c.requires.promise)
-      c.requires.ready)) c.sites_of.ensures.grows c.sites_of.ensures.sound,
-  c.in_ok-sites.ensures.sited,
+      (plain_function c.args.function.now) c.args.nodes.now.arrows.items c.args.nodes.now.whole c.requires.promise)
+      c.requires.ready),
   λ all. all,
 )
 
@@ -1481,25 +1449,23 @@ function::check_promise-loop-argument-preserved t c =
     c.in_ok-check_arrow.ensures.after in (
       after_both c.args.base.now c.in_ok-inner.inner.items (graph_of c.args.world.now) (graph_of c.loop-argument.world)
           (graph_of c.check_arrow.new.world) c.loop-argument.invariant.0 after,
-      all_sited_later (graph_of c.loop-argument.world) (graph_of c.check_arrow.new.world) after.later
-          (scope_of c.args.base.now) c.in_ok-sites.sites.items c.loop-argument.invariant.1,
       one_kept c.args.base.now c.in_ok-inner.inner.items (graph_of c.args.world.now)
           (ready_named c.args.base.now (graph_of c.args.world.now) c.args.locals.now (out-FunctionTree c.args.function.now).name
-          c.args.promise.now.whole c.in_ok-inner.inner.items
+          c.args.nodes.now.whole c.in_ok-inner.inner.items
           c.in_ok-inner.ensures (whole_below (scope_of c.args.base.now) (graph_of c.args.world.now)
-          (plain_function c.args.function.now) c.args.promise.now.arrows.items c.args.promise.now.whole c.requires.promise)
+          (plain_function c.args.function.now) c.args.nodes.now.arrows.items c.args.nodes.now.whole c.requires.promise)
           c.requires.ready) (graph_of c.loop-argument.world)
           c.loop-argument.invariant.0.later (plain_branches (out-FunctionTree c.args.function.now).branches)
           c.as_slice-argument-items.result.now
           (subst (λ (all : List (NodeId × NodeId)). ArePairs (graph_of c.args.world.now) all)
           (sym c.as_slice-argument-items.ensures.value)
           (arrows_below (scope_of c.args.base.now) (graph_of c.args.world.now) c.requires.ready.sound
-          (plain_function c.args.function.now) c.args.promise.now.arrows.items c.args.promise.now.whole
+          (plain_function c.args.function.now) c.args.nodes.now.arrows.items c.args.nodes.now.whole
           c.requires.promise))
           c.loop-argument.argument-index (get_or c.as_slice-argument-items.result.now c.loop-argument.argument-index beyond)
           (at_any c.as_slice-argument-items.result.now c.loop-argument.argument-index beyond
           (get_or c.as_slice-argument-items.result.now c.loop-argument.argument-index beyond) c.loop-argument-test.true)
-          c.loop-argument-test.true c.loop-argument.invariant.2
+          c.loop-argument-test.true c.loop-argument.invariant.1
           (subst (λ (names : Nodes). KeptAt (scope_of c.args.base.now) (graph_of c.loop-argument.world)
           (seen_by c.args.base.now names) (plain_branches (out-FunctionTree c.args.function.now).branches)
           (get_or c.as_slice-argument-items.result.now c.loop-argument.argument-index beyond)) c.as_slice.ensures.value
@@ -1508,13 +1474,17 @@ function::check_promise-loop-argument-preserved t c =
 
 pub function::check_promise-returns-clause-kept : goal.function::check_promise-returns-clause-kept
 function::check_promise-returns-clause-kept t c = promise_kept c.args.base.now (graph_of c.args.world.now) c.args.locals.now c.in_ok-inner.inner.items
-    c.args.function.now c.args.promise.now c.in_ok-inner.ensures
+    c.args.function.now c.args.nodes.now c.in_ok-inner.ensures
     (subst (λ (all : List (NodeId × NodeId)). AllOf (KeptAt (scope_of c.args.base.now) (graph_of c.args.world.now)
     (seen_by c.args.base.now c.in_ok-inner.inner.items) (plain_branches (out-FunctionTree c.args.function.now).branches)) all)
     c.as_slice-argument-items.ensures.value
     (none_left_have (KeptAt (scope_of c.args.base.now) (graph_of c.args.world.now)
     (seen_by c.args.base.now c.in_ok-inner.inner.items) (plain_branches (out-FunctionTree c.args.function.now).branches))
-    c.as_slice-argument-items.result.now c.loop-argument.argument-index c.loop-argument-test.false c.loop-argument.invariant.2))
+    c.as_slice-argument-items.result.now c.loop-argument.argument-index c.loop-argument-test.false c.loop-argument.invariant.1))
+
+pub function::check_arrow-divide-requires-clause-branches : goal.function::check_arrow-divide-requires-clause-branches
+function::check_arrow-divide-requires-clause-branches t c = patterns_sound (program_of c.args.base.now)
+    (names_seen c.args.base.now c.args.locals.now) (plain_branches c.args.branches.now) c.requires.sound
 
 pub function::check_arrow-cover-requires : goal.function::check_arrow-cover-requires
 function::check_arrow-cover-requires t c = record {
@@ -1543,7 +1513,7 @@ function::check_arrow-returns-clause-kept t c = arrow_given c.args.base.now c.ar
     c.in_ok-division.division.matched c.in_ok-division.ensures.matched
     (they_cover (graph_of c.divide.new.world) (scope_of c.args.base.now) (plain_branches c.args.branches.now)
     c.in_ok-division.division.matched c.in_ok-division.division.comings.items c.in_ok-division.division.rest
-    (c.in_ok-division.ensures.patterns ∙ c.requires.patterns) c.in_ok-division.ensures.division c.in_ok-cover.ensures.nothing)
+    c.in_ok-division.ensures.patterns c.in_ok-division.ensures.division c.in_ok-cover.ensures.nothing)
     (graph_of c.cover.new.world) c.cover.ensures.graph c.in_ok-check_bodies.field-0.items c.in_ok-check_bodies.ensures.gives
     c.in_ok-check_bodies.ensures.within
 
@@ -1555,7 +1525,7 @@ operands::check_exprs-check-requires t c =
       search (rules, fall, c.decreases),
       (
         search rules,
-        (let declared = declarations_of c.args.base.now in
+        (let declared = program_of c.args.base.now in
             let seen = names_seen c.args.base.now c.args.locals.now in
             expr_at declared seen c.items-expr-items.result.now c.loop-expr.expr-index c.expr-item.result c.expr-item.is c.loop-expr-test.true
             (subst (λ (all : Exprs). AreSound declared seen all) (sym c.items-expr-items.ensures) c.requires.sound)),
@@ -1570,7 +1540,7 @@ operands::check_items-check_item-requires t c =
       search (rules, fall, c.decreases),
       (
         search rules,
-        (let declared = declarations_of c.args.base.now in
+        (let declared = program_of c.args.base.now in
             let seen = names_seen c.args.base.now c.args.locals.now in
             item_at declared seen c.items-item-items.result.now c.loop-item.item-index c.item-item.result c.item-item.is c.loop-item-test.true
             (subst (λ (all : Items). ItemsAreSound declared seen all) (sym c.items-item-items.ensures) c.requires.sound)),
@@ -1586,7 +1556,7 @@ operands::check_fields-check-requires t c =
       search (rules, fall, c.decreases),
       (
         search rules,
-        (let declared = declarations_of c.args.base.now in
+        (let declared = program_of c.args.base.now in
             let seen = names_seen c.args.base.now c.args.locals.now in
             subst (λ (e : Expr). IsSound declared seen e) (field_expr c.field-item.result)
             (field_at declared seen c.items-field-items.result.now c.loop-field.field-index c.field-item.result c.field-item.is
@@ -1604,7 +1574,7 @@ chain::check_arguments-check_argument-requires t c =
         (c.loop-argument.invariant.0.ready),
         (
           (c.loop-argument.invariant.1.is_type.is_node),
-          (expr_at (declarations_of c.args.base.now) (names_seen c.args.base.now c.args.locals.now) c.args.arguments.now
+          (expr_at (program_of c.args.base.now) (names_seen c.args.base.now c.args.locals.now) c.args.arguments.now
               c.loop-argument.argument-index c.argument-item.result c.argument-item.is c.loop-argument-test.true c.requires.sound),
         ),
       ),
@@ -1620,7 +1590,7 @@ chain::check_tails-check_tail-requires t c =
         (c.loop-tail.invariant.0.ready),
         (
           (c.loop-tail.invariant.1.is_type.is_node),
-          (let declared = declarations_of c.args.base.now in
+          (let declared = program_of c.args.base.now in
               let seen = names_seen c.args.base.now c.args.locals.now in
               tail_at declared seen c.items-tail-items.result.now c.loop-tail.tail-index c.tail-item.result c.tail-item.is c.loop-tail-test.true
               (subst (λ (all : Tails). TailsAreSound declared seen all) (sym c.items-tail-items.ensures) c.requires.sound)),
@@ -1632,9 +1602,7 @@ pub branches::check_covering-check_bodies-requires : goal.branches::check_coveri
 branches::check_covering-check_bodies-requires t c = (
   search (rules, c.decreases),
   (
-    ((after_growing c.args.base.now c.args.locals.now c.args.world.now c.sites_of.new.world
-        c.divide.new.world
-        c.requires.ready c.sites_of.ensures.grows c.sites_of.ensures.sound c.divide.ensures.grows c.divide.ensures.sound
+    ((after_step c.args.base.now c.args.locals.now c.args.world.now c.divide.new.world c.requires.ready c.divide.ensures.grows c.divide.ensures.sound
         (graph_of c.cover.new.world) c.cover.ensures.graph).ready),
     (
       search rules,
@@ -1643,8 +1611,7 @@ branches::check_covering-check_bodies-requires t c = (
             c.in_ok-division.division)
             (sym c.cover.ensures.graph) c.in_ok-division.ensures.division),
         (
-          ((c.in_ok-division.ensures.patterns ∙ ap (map sited_pattern) c.as_slice.ensures.value
-              ∙ c.in_ok-sites.ensures.patterns)),
+          ((c.in_ok-division.ensures.patterns)),
           search rules,
         ),
       ),
@@ -1656,20 +1623,16 @@ pub branches::check_some-check_bodies-requires : goal.branches::check_some-check
 branches::check_some-check_bodies-requires t c = (
   search (rules, c.decreases),
   (
-    ((after_growing c.args.base.now c.args.locals.now c.args.world.now c.sites_of.new.world
-        c.divide.new.world
-        c.requires.ready c.sites_of.ensures.grows c.sites_of.ensures.sound c.divide.ensures.grows c.divide.ensures.sound
+    ((after_step c.args.base.now c.args.locals.now c.args.world.now c.divide.new.world c.requires.ready c.divide.ensures.grows c.divide.ensures.sound
         (graph_of c.divide.new.world) refl).ready),
     (
       search rules,
       (
         search rules,
         (
-          ((c.in_ok-division.ensures.patterns ∙ ap (map sited_pattern) c.as_slice.ensures.value
-              ∙ c.in_ok-sites.ensures.patterns)),
+          ((c.in_ok-division.ensures.patterns)),
           (limit_later (graph_of c.args.world.now) (graph_of c.divide.new.world)
-              (later_two c.args.world.now c.sites_of.new.world c.divide.new.world c.sites_of.ensures.grows c.sites_of.ensures.sound
-              c.divide.ensures.grows c.divide.ensures.sound) c.args.limit c.requires.limit),
+              (later_of c.args.world.now c.divide.new.world c.divide.ensures.grows c.divide.ensures.sound) c.args.limit c.requires.limit),
         ),
       ),
     ),
@@ -1680,25 +1643,22 @@ pub branches::check_let-check_body-requires : goal.branches::check_let-check_bod
 branches::check_let-check_body-requires t c = (
   search (rules, c.decreases),
   (
-    ((after_growing c.args.base.now c.args.locals.now c.check.new.world c.with_site.new.world
-        c.remaining.new.world c.in_ok-matched.ensures.after.ready
-        c.with_site.ensures.grows c.with_site.ensures.sound c.remaining.ensures.grows c.remaining.ensures.sound
+    ((after_step c.args.base.now c.args.locals.now c.check.new.world c.remaining.new.world c.in_ok-matched.ensures.after.ready c.remaining.ensures.grows c.remaining.ensures.sound
         (graph_of c.cover.new.world) c.cover.ensures.graph).ready),
     (
-      (subst (λ (tree : Tree). IsSound (declarations_of c.args.base.now)
+      (subst (λ (tree : Tree). IsSound (program_of c.args.base.now)
           (names_of tree ++ names_seen c.args.base.now c.args.locals.now) (plain c.args.rest.now))
-          (sym c.in_ok-sited.ensures.pattern) c.requires.rest),
+          (sym c.site_at-sited.ensures.pattern) c.requires.rest),
       (
-        (subst (λ (graph : Graph). IsSited graph (scope_of c.args.base.now) c.in_ok-sited.sited)
+        (subst (λ (graph : Graph). IsSited graph (scope_of c.args.base.now) c.site_at-sited.result.now)
             (sym c.cover.ensures.graph)
-            (sited_later (graph_of c.with_site.new.world) (graph_of c.remaining.new.world)
-            (later_of c.with_site.new.world c.remaining.new.world c.remaining.ensures.grows c.remaining.ensures.sound)
-            (scope_of c.args.base.now) c.in_ok-sited.sited c.in_ok-sited.ensures.sited)),
+            (sited_later (graph_of c.check.new.world) (graph_of c.remaining.new.world)
+            (later_of c.check.new.world c.remaining.new.world c.remaining.ensures.grows c.remaining.ensures.sound)
+            (scope_of c.args.base.now) c.site_at-sited.result.now (c.site_at-sited.ensures.sited (graph_of c.check.new.world) (scope_of c.args.base.now)
+            c.in_ok-matched.ensures.after.ready.sited))),
         (
           (below_later (graph_of c.check.new.world) (graph_of c.cover.new.world)
-              (after_growing c.args.base.now c.args.locals.now c.check.new.world c.with_site.new.world c.remaining.new.world
-              c.in_ok-matched.ensures.after.ready
-              c.with_site.ensures.grows c.with_site.ensures.sound c.remaining.ensures.grows c.remaining.ensures.sound
+              (after_step c.args.base.now c.args.locals.now c.check.new.world c.remaining.new.world c.in_ok-matched.ensures.after.ready c.remaining.ensures.grows c.remaining.ensures.sound
               (graph_of c.cover.new.world) c.cover.ensures.graph).later
               c.in_ok-matched.matched c.in_ok-matched.ensures.gives.is_type.is_node),
           search rules,
@@ -1782,7 +1742,7 @@ bodies::check_bodies-check_body-requires t c =
       (
         done.after.ready,
         (
-          subst (λ (body : Expr). IsSound (declarations_of base) (names_of (coming_pattern coming.now) ++ names_seen base locals) body)
+          subst (λ (body : Expr). IsSound (program_of base) (names_of (coming_pattern coming.now) ++ names_seen base locals) body)
               (branch_body c.branch-item.result)
               (is_sound base locals old c.requires.ready division branches items c.args.limit new number c.loop-number.results.items done
               c.branch-item.result c.branch-item.is c.loop-number-test.true coming.now looked.0 looked.1 c.items-branch-items.ensures
@@ -1827,15 +1787,10 @@ pub function::check_function-check_promise-requires : goal.function::check_funct
 function::check_function-check_promise-requires t c = (
   search (rules, c.decreases),
   (
-    ((after_grown c.args.base.now c.args.locals.now (graph_of c.args.world.now)
-        c.args.world.now
-        c.promise_of.new.world (after_none c.args.base.now c.args.locals.now (graph_of c.args.world.now) c.requires.ready)
-        c.promise_of.ensures.grows c.promise_of.ensures.sound).ready),
+    search rules,
     (
       search rules,
-      (function_promise (scope_of c.args.base.now) (graph_of c.promise_of.new.world)
-          c.args.function.now
-          c.in_ok-promise.promise.arrows.items c.in_ok-promise.promise.whole c.in_ok-promise.ensures.promise),
+      c.nodes_of-nodes.ensures (scope_of c.args.base.now) (graph_of c.args.world.now) c.requires.ready.promised,
     ),
   ),
 )
@@ -1846,35 +1801,29 @@ function::check_promise-check_arrow-requires t c = (
   (
     search rules,
     (
-      branches_sound c.args.base.now c.args.locals.now c.as_slice.result.now c.args.promise.now.whole c.args.function.now
+      branches_sound c.args.base.now c.args.locals.now c.as_slice.result.now c.args.nodes.now.whole c.args.function.now
           (c.as_slice.ensures.value ∙ c.in_ok-inner.ensures) c.requires.sound,
       (
-        search rules,
-        (
-          search rules,
-          (
-            (let beyond : NodeId × NodeId = (record { 0 = 0 }, record { 0 = 0 }) in
-                below_later (graph_of c.args.world.now) (graph_of c.loop-argument.world) c.loop-argument.invariant.0.later
-                (get_or c.as_slice-argument-items.result.now c.loop-argument.argument-index beyond).0
-                (pair_at (graph_of c.args.world.now) c.as_slice-argument-items.result.now
-                (subst (λ (all : List (NodeId × NodeId)). ArePairs (graph_of c.args.world.now) all)
-                (sym c.as_slice-argument-items.ensures.value)
-                (arrows_below (scope_of c.args.base.now) (graph_of c.args.world.now) c.requires.ready.sound
-                (plain_function c.args.function.now) c.args.promise.now.arrows.items c.args.promise.now.whole
-                c.requires.promise)) c.loop-argument.argument-index beyond
-                c.loop-argument-test.true).0),
-            (let beyond : NodeId × NodeId = (record { 0 = 0 }, record { 0 = 0 }) in
-                below_later (graph_of c.args.world.now) (graph_of c.loop-argument.world) c.loop-argument.invariant.0.later
-                (get_or c.as_slice-argument-items.result.now c.loop-argument.argument-index beyond).1
-                (pair_at (graph_of c.args.world.now) c.as_slice-argument-items.result.now
-                (subst (λ (all : List (NodeId × NodeId)). ArePairs (graph_of c.args.world.now) all)
-                (sym c.as_slice-argument-items.ensures.value)
-                (arrows_below (scope_of c.args.base.now) (graph_of c.args.world.now) c.requires.ready.sound
-                (plain_function c.args.function.now) c.args.promise.now.arrows.items c.args.promise.now.whole
-                c.requires.promise)) c.loop-argument.argument-index beyond
-                c.loop-argument-test.true).1),
-          ),
-        ),
+        (let beyond : NodeId × NodeId = (record { 0 = 0 }, record { 0 = 0 }) in
+            below_later (graph_of c.args.world.now) (graph_of c.loop-argument.world) c.loop-argument.invariant.0.later
+            (get_or c.as_slice-argument-items.result.now c.loop-argument.argument-index beyond).0
+            (pair_at (graph_of c.args.world.now) c.as_slice-argument-items.result.now
+            (subst (λ (all : List (NodeId × NodeId)). ArePairs (graph_of c.args.world.now) all)
+            (sym c.as_slice-argument-items.ensures.value)
+            (arrows_below (scope_of c.args.base.now) (graph_of c.args.world.now) c.requires.ready.sound
+            (plain_function c.args.function.now) c.args.nodes.now.arrows.items c.args.nodes.now.whole
+            c.requires.promise)) c.loop-argument.argument-index beyond
+            c.loop-argument-test.true).0),
+        (let beyond : NodeId × NodeId = (record { 0 = 0 }, record { 0 = 0 }) in
+            below_later (graph_of c.args.world.now) (graph_of c.loop-argument.world) c.loop-argument.invariant.0.later
+            (get_or c.as_slice-argument-items.result.now c.loop-argument.argument-index beyond).1
+            (pair_at (graph_of c.args.world.now) c.as_slice-argument-items.result.now
+            (subst (λ (all : List (NodeId × NodeId)). ArePairs (graph_of c.args.world.now) all)
+            (sym c.as_slice-argument-items.ensures.value)
+            (arrows_below (scope_of c.args.base.now) (graph_of c.args.world.now) c.requires.ready.sound
+            (plain_function c.args.function.now) c.args.nodes.now.arrows.items c.args.nodes.now.whole
+            c.requires.promise)) c.loop-argument.argument-index beyond
+            c.loop-argument-test.true).1),
       ),
     ),
   ),
@@ -1897,7 +1846,7 @@ function::check_arrow-check_bodies-requires t c = (
             c.in_ok-division.division)
             (sym c.cover.ensures.graph) c.in_ok-division.ensures.division),
         (
-          (c.in_ok-division.ensures.patterns ∙ c.requires.patterns),
+          c.in_ok-division.ensures.patterns,
           (below_later (graph_of c.args.world.now) (graph_of c.cover.new.world)
               (after_same c.args.base.now c.args.locals.now (graph_of c.args.world.now)
               (graph_of c.divide.new.world) (graph_of c.cover.new.world)
@@ -2304,7 +2253,7 @@ function::check_arrow-returns-in_err-cover-clause-fault t c =
     c.in_err-cover.field-0.0
     (uncovered_fails (scope_of base) first (seen_by base c.args.locals.now) second branches (elements_of first arrow.0) division.rest
     (λ e element inside. let left = none_takes second (scope_of base) branches division.matched division.comings.items division.rest
-    (given.patterns ∙ c.requires.patterns) given.division e element inside in (
+    given.patterns given.division e element inside in (
       earlier_in first second (later_of c.args.world.now c.divide.new.world c.divide.ensures.grows c.divide.ensures.sound) c.requires.ready.sound
           arrow.0 c.requires.argument e element (subst (λ (id : NodeId). elements_of second id e) given.matched left.0),
       left.1,
@@ -2337,7 +2286,7 @@ function::check_promise-returns-in_err-check_arrow-clause-fault t c =
     let table = table_of c.check_arrow.new.world in
     let error = c.in_err-check_arrow.field-0.0 in
     rw (is.1, is.2) (promise_failed base (graph_of c.args.world.now) (graph_of c.loop-argument.world) c.loop-argument.invariant.0.later
-    c.args.locals.now c.requires.ready c.in_ok-inner.inner.items c.args.function.now c.args.promise.now c.in_ok-inner.ensures c.requires.promise
+    c.args.locals.now c.requires.ready c.in_ok-inner.inner.items c.args.function.now c.args.nodes.now c.in_ok-inner.ensures c.requires.promise
     items c.as_slice-argument-items.ensures.value index arrow (at_any items index beyond arrow c.loop-argument-test.true) c.loop-argument-test.true
     table error
     (subst (λ (names : Nodes). ArrowFails base (graph_of c.loop-argument.world) names table f.at (plain_branches f.branches) arrow error)
@@ -2345,17 +2294,15 @@ function::check_promise-returns-in_err-check_arrow-clause-fault t c =
 
 pub function::check_function-returns-in_err-check_promise-clause-fault : goal.function::check_function-returns-in_err-check_promise-clause-fault
 function::check_function-returns-in_err-check_promise-clause-fault t c =
-    let is = err_from_is_err_and c.from_residual-in_err-check_promise.result c.from_residual-in_err-check_promise.ensures.1 in
-    rw (is.1, is.2) (function_failed c.args.base.now (graph_of c.args.world.now) (graph_of c.promise_of.new.world)
-    (later_of c.args.world.now c.promise_of.new.world c.promise_of.ensures.grows c.promise_of.ensures.sound) c.args.locals.now c.requires.ready
-    (plain_function c.args.function.now) (table_of c.check_promise.new.world) c.in_err-check_promise.field-0.0 c.in_err-check_promise.ensures.fault)
+    let is = err_from_is_err_and c.from_residual.result c.from_residual.ensures.1 in
+    rw (is.1, is.2) (λ here. c.in_err-check_promise.ensures.fault)
 
 pub function::check_function-returns-clause-least : goal.function::check_function-returns-clause-least
 function::check_function-returns-clause-least t c = function_below (scope_of c.args.base.now) (graph_of c.args.world.now) (seen_by c.args.base.now c.args.locals.now)
-    (graph_of c.promise_of.new.world) (graph_of c.check_promise.new.world) c.in_ok-check_promise.ensures.after.later c.promise_of.ensures.sound
-    (plain_function c.args.function.now) c.in_ok-promise.promise.arrows.items c.in_ok-promise.promise.whole
-    (function_promise (scope_of c.args.base.now) (graph_of c.promise_of.new.world) c.args.function.now
-    c.in_ok-promise.promise.arrows.items c.in_ok-promise.promise.whole c.in_ok-promise.ensures.promise)
+    (graph_of c.args.world.now) (graph_of c.check_promise.new.world) c.in_ok-check_promise.ensures.after.later c.requires.ready.sound
+    (plain_function c.args.function.now) c.nodes_of-nodes.result.now.arrows.items c.nodes_of-nodes.result.now.whole
+    (c.nodes_of-nodes.ensures (scope_of c.args.base.now) (graph_of c.args.world.now)
+    c.requires.ready.promised)
 
 pub bodies::check_bodies-loop-number-init : goal.bodies::check_bodies-loop-number-init
 bodies::check_bodies-loop-number-init t c = rw c.new-results.ensures.items (none_done c.args.base.now c.args.locals.now (graph_of c.args.world.now) c.requires.ready c.args.division.now
@@ -2496,15 +2443,14 @@ branches::check_covering-returns-clause-least t c =
     let middle = graph_of c.divide.new.world in
     let last = graph_of c.check_bodies.new.world in
     let results = c.in_ok-results.results.items in
-    let is = later_two c.args.world.now c.sites_of.new.world c.divide.new.world c.sites_of.ensures.grows c.sites_of.ensures.sound
-    c.divide.ensures.grows c.divide.ensures.sound in
+    let is = later_of c.args.world.now c.divide.new.world c.divide.ensures.grows c.divide.ensures.sound in
     union_least scope old nodes last (graph_of c.union.new.world) branches (elements_of old matched) results
     (bodies_least_earlier scope old c.requires.ready.sound nodes c.requires.ready.nodes middle is matched c.requires.matched branches
     (graph_of c.cover.new.world) c.cover.ensures.graph c.in_ok-division.division.matched c.in_ok-division.ensures.matched last results
     c.in_ok-results.ensures.least)
     c.in_ok-union.field-0
     (subst (λ (ids : List NodeId). elements_of (graph_of c.union.new.world) c.in_ok-union.field-0 ⊆ IsInOne (map (typ last) ids))
-    c.as_slice-2.ensures.value c.in_ok-union.ensures.only)
+    c.as_slice.ensures.value c.in_ok-union.ensures.only)
 
 pub branches::check_covering-returns-in_err-cover-clause-fault : goal.branches::check_covering-returns-in_err-cover-clause-fault
 branches::check_covering-returns-in_err-cover-clause-fault t c =
@@ -2519,8 +2465,7 @@ branches::check_covering-returns-in_err-cover-clause-fault t c =
     let table = table_of c.cover.new.world in
     let error = c.in_err-cover.field-0.0 in
     let is = err_from_is_err_and c.from_residual-in_err-cover.result c.from_residual-in_err-cover.ensures.1 in
-    let later = later_two c.args.world.now c.sites_of.new.world c.divide.new.world c.sites_of.ensures.grows c.sites_of.ensures.sound
-    c.divide.ensures.grows c.divide.ensures.sound in
+    let later = later_of c.args.world.now c.divide.new.world c.divide.ensures.grows c.divide.ensures.sound in
     rw (is.1, is.2)
     (fails_more old nodes table (λ types. IsUncovered scope c.args.at branches (elements_of old matched))
     (λ types. CoveringFault scope types c.args.at (elements_of old matched) (Nothing scope) branches) (λ types of at reported d uncovered. inl uncovered)
@@ -2528,7 +2473,7 @@ branches::check_covering-returns-in_err-cover-clause-fault t c =
     (uncovered_fails scope old nodes middle branches (elements_of old matched) division.division.rest
     (none_takes_earlier old middle later c.requires.ready.sound matched c.requires.matched scope branches division.division.matched
     division.ensures.matched division.division.comings.items division.division.rest
-    (division.ensures.patterns ∙ ap (map sited_pattern) c.as_slice.ensures.value ∙ c.in_ok-sites.ensures.patterns) division.ensures.division)
+    (division.ensures.patterns) division.ensures.division)
     c.args.at table error c.in_err-cover.ensures.fault))
 
 pub branches::check_covering-returns-in_err-results-clause-fault : goal.branches::check_covering-returns-in_err-results-clause-fault
@@ -2542,8 +2487,7 @@ branches::check_covering-returns-in_err-results-clause-fault t c =
     let table = table_of c.check_bodies.new.world in
     let error = c.in_err-results.field-0.0 in
     let is = err_from_is_err_and c.from_residual-in_err-results.result c.from_residual-in_err-results.ensures.1 in
-    let later = later_two c.args.world.now c.sites_of.new.world c.divide.new.world c.sites_of.ensures.grows c.sites_of.ensures.sound
-    c.divide.ensures.grows c.divide.ensures.sound in
+    let later = later_of c.args.world.now c.divide.new.world c.divide.ensures.grows c.divide.ensures.sound in
     rw (is.1, is.2)
     (fails_more old nodes table (λ types. BranchFault scope types [] (elements_of old matched) (Nothing scope) branches)
     (λ types. CoveringFault scope types c.args.at (elements_of old matched) (Nothing scope) branches) (λ types of at reported d fault. inr fault) error
@@ -2560,8 +2504,7 @@ branches::check_some-returns-clause-least t c =
     let branches = plain_branches c.args.branches.now in
     let matched = c.args.matched in
     let middle = graph_of c.divide.new.world in
-    let is = later_two c.args.world.now c.sites_of.new.world c.divide.new.world c.sites_of.ensures.grows c.sites_of.ensures.sound
-    c.divide.ensures.grows c.divide.ensures.sound in
+    let is = later_of c.args.world.now c.divide.new.world c.divide.ensures.grows c.divide.ensures.sound in
     IfOk-weaker c.check_bodies.result _ _
     (λ results. bodies_least_earlier scope old c.requires.ready.sound nodes c.requires.ready.nodes middle is matched c.requires.matched branches
     middle refl c.in_ok-division.division.matched c.in_ok-division.ensures.matched (graph_of c.check_bodies.new.world) results.items)
@@ -2576,8 +2519,7 @@ branches::check_some-returns-clause-fault t c =
     let branches = plain_branches c.args.branches.now in
     let matched = c.args.matched in
     let middle = graph_of c.divide.new.world in
-    let is = later_two c.args.world.now c.sites_of.new.world c.divide.new.world c.sites_of.ensures.grows c.sites_of.ensures.sound
-    c.divide.ensures.grows c.divide.ensures.sound in
+    let is = later_of c.args.world.now c.divide.new.world c.divide.ensures.grows c.divide.ensures.sound in
     IfErr-weaker c.check_bodies.result _ _
     (branches_fail_earlier scope old c.requires.ready.sound nodes c.requires.ready.nodes middle is matched c.requires.matched branches
     middle refl c.in_ok-division.division.matched c.in_ok-division.ensures.matched c.args.limit c.requires.limit
@@ -2594,17 +2536,16 @@ branches::check_let-returns-in-Some-clause-least t c =
     let first = graph_of c.check.new.world in
     let second = graph_of c.remaining.new.world in
     let matched = c.in_ok-matched in
-    let is = later_two c.check.new.world c.with_site.new.world c.remaining.new.world c.with_site.ensures.grows c.with_site.ensures.sound
-    c.remaining.ensures.grows c.remaining.ensures.sound in
+    let is = later_of c.check.new.world c.remaining.new.world c.remaining.ensures.grows c.remaining.ensures.sound in
     let_is_least scope old c.requires.ready.sound nodes c.requires.ready.nodes value matched.matched first matched.ensures.after.later
     (known scope old nodes first value matched.matched matched.ensures.gives matched.ensures.least) second is matched.ensures.after.ready.nodes
     matched.ensures.gives.is_type.is_node (plain_tree c.args.pattern.now) (plain c.args.rest.now) (graph_of c.check_body.new.world) c.in-Some.id
     (body_least_moved scope nodes (graph_of c.check_body.new.world) matched.matched (plain c.args.rest.now) (graph_of c.cover.new.world) second
-    c.cover.ensures.graph (sited_pattern c.in_ok-sited.sited) (plain_tree c.args.pattern.now) c.in_ok-sited.ensures.pattern
+    c.cover.ensures.graph (sited_pattern c.site_at-sited.result.now) (plain_tree c.args.pattern.now) c.site_at-sited.ensures.pattern
     c.in_ok-id.field-0 (Some c.in-Some.id) c.in-Some.is c.in_ok-id.ensures.least)
 
-pub branches::check_let-returns-clause-least : goal.branches::check_let-returns-clause-least
-branches::check_let-returns-clause-least t c =
+pub branches::check_let-returns-in-None-clause-least : goal.branches::check_let-returns-in-None-clause-least
+branches::check_let-returns-in-None-clause-least t c =
     let base = c.args.base.now in
     let scope = scope_of base in
     let old = graph_of c.args.world.now in
@@ -2613,15 +2554,14 @@ branches::check_let-returns-clause-least t c =
     let first = graph_of c.check.new.world in
     let second = graph_of c.remaining.new.world in
     let matched = c.in_ok-matched in
-    let is = later_two c.check.new.world c.with_site.new.world c.remaining.new.world c.with_site.ensures.grows c.with_site.ensures.sound
-    c.remaining.ensures.grows c.remaining.ensures.sound in
+    let is = later_of c.check.new.world c.remaining.new.world c.remaining.ensures.grows c.remaining.ensures.sound in
     let ready = c.in_ok-id.ensures.after.ready in
     let_is_empty scope old c.requires.ready.sound nodes c.requires.ready.nodes value matched.matched first matched.ensures.after.later
     (known scope old nodes first value matched.matched matched.ensures.gives matched.ensures.least) second is matched.ensures.after.ready.nodes
     matched.ensures.gives.is_type.is_node (plain_tree c.args.pattern.now) (plain c.args.rest.now) (graph_of c.check_body.new.world)
     ready.more ready.begins
     (body_least_moved scope nodes (graph_of c.check_body.new.world) matched.matched (plain c.args.rest.now) (graph_of c.cover.new.world) second
-    c.cover.ensures.graph (sited_pattern c.in_ok-sited.sited) (plain_tree c.args.pattern.now) c.in_ok-sited.ensures.pattern
+    c.cover.ensures.graph (sited_pattern c.site_at-sited.result.now) (plain_tree c.args.pattern.now) c.site_at-sited.ensures.pattern
     c.in_ok-id.field-0 None c.in-None.is c.in_ok-id.ensures.least)
 
 pub branches::check_let-returns-in_err-cover-clause-fault : goal.branches::check_let-returns-in_err-cover-clause-fault
@@ -2633,26 +2573,23 @@ branches::check_let-returns-in_err-cover-clause-fault t c =
     let value = plain c.args.value.now in
     let first = graph_of c.check.new.world in
     let second = graph_of c.remaining.new.world in
-    let between = graph_of c.with_site.new.world in
     let matched = c.in_ok-matched in
     let pattern = plain_tree c.args.pattern.now in
     let rest = plain c.args.rest.now in
-    let sited = c.in_ok-sited.sited in
+    let sited = c.site_at-sited.result.now in
     let table = table_of c.cover.new.world in
     let error = c.in_err-cover.field-0.0 in
     let is = err_from_is_err_and c.from_residual-in_err-cover.result c.from_residual-in_err-cover.ensures.1 in
-    let later = later_two c.check.new.world c.with_site.new.world c.remaining.new.world c.with_site.ensures.grows c.with_site.ensures.sound
-    c.remaining.ensures.grows c.remaining.ensures.sound in
-    let site = subst (λ (tree : Tree). IsSite between scope tree sited.site) c.in_ok-sited.ensures.pattern c.in_ok-sited.ensures.sited.site in
+    let later = later_of c.check.new.world c.remaining.new.world c.remaining.ensures.grows c.remaining.ensures.sound in
+    let site = subst (λ (tree : Tree). IsSite first scope tree sited.site) c.site_at-sited.ensures.pattern
+    (c.site_at-sited.ensures.sited first scope matched.ensures.after.ready.sited).site in
     rw (is.1, is.2)
     (let_uncovered scope old c.requires.ready.sound nodes c.requires.ready.nodes value matched.matched first matched.ensures.after.later
     (known scope old nodes first value matched.matched matched.ensures.gives matched.ensures.least) second later matched.ensures.after.ready.nodes
     matched.ensures.gives.is_type.is_node pattern rest table c.args.at error
     (uncovered_fails scope second nodes second (ABranch pattern rest NoBranch) (elements_of second matched.matched) c.in_ok-left.left
-    (one_untaken between second (later_of c.with_site.new.world c.remaining.new.world c.remaining.ensures.grows c.remaining.ensures.sound)
-    c.with_site.ensures.sound scope pattern sited.site site matched.matched
-    (below_later first between (later_of c.check.new.world c.with_site.new.world c.with_site.ensures.grows c.with_site.ensures.sound)
-    matched.matched matched.ensures.gives.is_type.is_node) c.in_ok-left.left (c.in_ok-left.ensures.left scope pattern site) rest)
+    (one_untaken first second later matched.ensures.after.later.sound scope pattern sited.site site matched.matched
+    matched.ensures.gives.is_type.is_node c.in_ok-left.left (c.in_ok-left.ensures.left scope pattern site) rest)
     c.args.at table error c.in_err-cover.ensures.fault))
 
 pub branches::check_let-returns-in_err-id-clause-fault : goal.branches::check_let-returns-in_err-id-clause-fault
@@ -2670,14 +2607,13 @@ branches::check_let-returns-in_err-id-clause-fault t c =
     let table = table_of c.check_body.new.world in
     let error = c.in_err-id.field-0.0 in
     let is = err_from_is_err_and c.from_residual-in_err-id.result c.from_residual-in_err-id.ensures.1 in
-    let later = later_two c.check.new.world c.with_site.new.world c.remaining.new.world c.with_site.ensures.grows c.with_site.ensures.sound
-    c.remaining.ensures.grows c.remaining.ensures.sound in
+    let later = later_of c.check.new.world c.remaining.new.world c.remaining.ensures.grows c.remaining.ensures.sound in
     rw (is.1, is.2)
     (let_fails scope old c.requires.ready.sound nodes c.requires.ready.nodes value matched.matched first matched.ensures.after.later
     (known scope old nodes first value matched.matched matched.ensures.gives matched.ensures.least) second later matched.ensures.after.ready.nodes
     matched.ensures.gives.is_type.is_node pattern rest table c.args.at error
-    (subst (λ (tree : Tree). BodyFails base second c.args.locals.now table matched.matched None tree rest error) c.in_ok-sited.ensures.pattern
-    (subst (λ (graph : Graph). BodyFails base graph c.args.locals.now table matched.matched None (sited_pattern c.in_ok-sited.sited) rest error)
+    (subst (λ (tree : Tree). BodyFails base second c.args.locals.now table matched.matched None tree rest error) c.site_at-sited.ensures.pattern
+    (subst (λ (graph : Graph). BodyFails base graph c.args.locals.now table matched.matched None (sited_pattern c.site_at-sited.result.now) rest error)
     c.cover.ensures.graph c.in_err-id.ensures.fault)))
 
 pub branches::check_try-returns-clause-least : goal.branches::check_try-returns-clause-least

@@ -5,7 +5,6 @@ use Rattle.cd_check.proofs.OperandFaults.{FaultsOf}
 use Rattle.cd_check.proofs.OperandsLeast.{ExprsLeast, ItemsLeast, FieldsLeast}
 use Rattle.cd_check.proofs.Sizes.{room}
 use Rattle.cd_check.specs.Inner.Chains.{NarrowsOn, FaultsOn}
-use Rattle.cd_check.specs.Inner.Divided.{AreSited}
 use Rattle.cd_check.specs.Inner.GoingOn.{GoesOn, LeadsOn}
 use Rattle.cd_check.specs.Inner.Ready.{IsAfter, scope_of, seen_by}
 use Rattle.cd_empty.specs.Seen.{graph_of}
@@ -176,6 +175,5 @@ invariant-bodies::check_bodies-loop-number l = Done l.base l.locals (graph_of l.
 
 abbrev pub invariant-function::check_promise-loop-argument : goal.invariant-function::check_promise-loop-argument
 invariant-function::check_promise-loop-argument l = IsAfter l.base l.inner.items (graph_of l.fn.world) (graph_of l.world)
-    × AreSited (graph_of l.world) (scope_of l.base) l.sites.items
     × KeptSoFar l.base l.inner.items (graph_of l.fn.world) (plain_branches (out-FunctionTree l.function).branches)
     l.argument-items (drop l.argument-index l.argument-items)

@@ -1,5 +1,5 @@
 -- What comes to branches, and the types of their bodies.
-use Rattle.std.specs.Prelude.{◌⊎◌, ◌++◌, List, [], ◌∷◌, Option, Some, None}
+use Rattle.std.specs.Prelude.{◌⊎◌, ◌++◌, List, [], Option, Some, None}
 use Rattle.cd_sets.specs.declared.node_id.NodeId.{NodeId}
 use Rattle.cd_syntax.specs.Name.{Name}
 use Rattle.cd_syntax.specs.TypeTree.{Tree}
@@ -9,7 +9,7 @@ use Rattle.cd_model.specs.Scope.{Scope}
 use Rattle.cd_model.specs.Thing.{Thing, IsElement}
 use Rattle.cd_matching.specs.Captures.{Captures}
 use Rattle.cd_matching.specs.Takes.{WrittenTakes}
-use Rattle.cd_program.specs.Expr.{Expr, Branches, NoBranch, ABranch}
+use Rattle.cd_program.specs.Expr.{Expr, Branches}
 use Rattle.cd_meaning.specs.Sets.{Set, ◌⊆◌, elements_of}
 use Rattle.cd_typing.specs.Typ.{Typ, typ, In, IsType, Types, AreTypes}
 use Rattle.cd_typing.specs.Branches.{IsFirst, HoldCaptured}

@@ -6,7 +6,7 @@ use Rattle.cd_model.specs.Scope.{Scope}
 use Rattle.cd_model.specs.Thing.{Thing}
 use Rattle.cd_program.specs.Expr.{Expr}
 use Rattle.cd_meaning.specs.Sets.{◌⊆◌, elements_of}
-use Rattle.cd_typing.specs.Typ.{Typ, typ, In, IsType, Types}
+use Rattle.cd_typing.specs.Typ.{Typ, In, IsType, Types}
 use Rattle.cd_typing.specs.declared.rule.Rule.{Rule}
 use Rattle.cd_least.specs.Misses.{place_of}
 use Rattle.cd_check.specs.Inner.Environment.{Nodes, AreOfTypes}

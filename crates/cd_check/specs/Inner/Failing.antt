@@ -6,9 +6,8 @@ use Rattle.cd_model.specs.Formula.{Graph}
 use Rattle.cd_model.specs.Thing.{Thing}
 use Rattle.cd_program.specs.Expr.{Expr, Kind, Exprs, Items, AnItem, Item, Fields, Tail, Tails}
 use Rattle.cd_program.specs.Expr.{Branches, FunctionTree}
-use Rattle.cd_meaning.specs.Sets.{Set, elements_of}
+use Rattle.cd_meaning.specs.Sets.{elements_of}
 use Rattle.cd_typing.specs.Operators.{truth}
-use Rattle.cd_typing.specs.Typ.{Types}
 use Rattle.cd_least.specs.Faults.{Fault, KindFault, ExprsFault, ItemsFault, FieldsFault}
 use Rattle.cd_least.specs.Faults.{ArgumentsFault, ArgumentFault, TailsFault, TailFault}
 use Rattle.cd_least.specs.Faults.{FunctionFault, BranchFault, Nothing, AResult}

@@ -1,19 +1,18 @@
 -- What is known of the nodes that a check gives.
-use Rattle.std.specs.Prelude.{Bool, List, [], ◌∷◌, map, Option, Some, None}
+use Rattle.std.specs.Prelude.{Bool, List, [], map, Option, Some, None}
 use Rattle.cd_sets.specs.declared.node_id.NodeId.{NodeId}
-use Rattle.cd_syntax.specs.TypeTree.{Tree}
 use Rattle.cd_model.specs.AllOf.{AllOf}
 use Rattle.cd_model.specs.Formula.{Graph}
 use Rattle.cd_program.specs.Expr.{Expr, Kind, Exprs, AnExpr, Items, AnItem, Item, Fields, Tail, Tails}
-use Rattle.cd_program.specs.Expr.{ATail, Branches, FunctionTree}
-use Rattle.cd_meaning.specs.Sets.{Set, ◌⊆◌, elements_of}
+use Rattle.cd_program.specs.Expr.{Branches, FunctionTree}
+use Rattle.cd_meaning.specs.Sets.{◌⊆◌, elements_of}
 use Rattle.cd_typing.specs.Typ.{Typ, typ, In, IsType, Types}
 use Rattle.cd_typing.specs.Branches.{Cover}
 use Rattle.cd_typing.specs.Operators.{truth}
-use Rattle.cd_typing.specs.Typing.{Has, KindHas, HaveAll, ItemsHave, FieldsHave, FunctionHas}
+use Rattle.cd_typing.specs.Typing.{Has, KindHas, HaveAll, ItemsHave, FieldsHave}
 use Rattle.cd_typing.specs.Typing.{ArgumentsHave, TailHas, TailsHave, BodiesHave}
+use Rattle.cd_resolved.specs.declared.function_nodes.FunctionNodes.{FunctionNodes}
 use Rattle.cd_check.specs.declared.base.Base.{Base}
-use Rattle.cd_check.specs.declared.interface.Promise.{Promise}
 use Rattle.cd_check.specs.Inner.Environment.{Nodes, AreOfTypes, AreNodes, Gives}
 use Rattle.cd_check.specs.Inner.Following.{Follows}
 use Rattle.cd_check.specs.Inner.GoingOn.{Steps, listed}
@@ -94,6 +93,6 @@ module _ (base : Base) (old : Graph) (locals : Nodes) where
   ArrowKept branches arrow = (types : Types) → AreOfTypes old (seen_by base locals) types
       → Keep (scope_of base) types branches (elements_of old arrow.0) (elements_of old arrow.1)
 
-  abbrev pub PromiseKept : FunctionTree → Promise → Type 0
-  PromiseKept f promise =
-      KeepsPromise (scope_of base) old (seen_by base locals) f promise.arrows.items promise.whole
+  abbrev pub PromiseKept : FunctionTree → FunctionNodes → Type 0
+  PromiseKept f nodes =
+      KeepsPromise (scope_of base) old (seen_by base locals) f nodes.arrows.items nodes.whole

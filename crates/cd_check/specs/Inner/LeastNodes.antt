@@ -1,11 +1,9 @@
 -- What is known of the nodes that a check gives: each is the least type of its kind.
-use Rattle.std.specs.Prelude.{◌⊎◌, Bool, List, map, Option, Some, None}
+use Rattle.std.specs.Prelude.{Bool, List, map, Option, Some, None}
 use Rattle.cd_sets.specs.declared.node_id.NodeId.{NodeId}
-use Rattle.cd_syntax.specs.TypeTree.{Tree}
 use Rattle.cd_model.specs.Formula.{Graph}
-use Rattle.cd_model.specs.Thing.{Thing, IsElement}
 use Rattle.cd_program.specs.Expr.{Expr, Kind, Exprs, Items, AnItem, Item, Fields, Tail, Tails}
-use Rattle.cd_meaning.specs.Sets.{Set, ◌⊆◌, elements_of}
+use Rattle.cd_meaning.specs.Sets.{◌⊆◌, elements_of}
 use Rattle.cd_typing.specs.Operators.{truth}
 use Rattle.cd_typing.specs.Typ.{Typ, typ, In, IsType, Types}
 use Rattle.cd_typing.specs.Typing.{Has, KindHas, HaveAll, ItemsHave, FieldsHave}

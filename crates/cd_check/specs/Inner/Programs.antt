@@ -1,61 +1,48 @@
--- The functions of a program, with what they promise.
+-- The functions of a program, with their nodes.
 use Rattle.std.specs.Prelude.{◌≡◌, ℕ, true, List, []}
 use Rattle.cd_sets.specs.declared.node_id.NodeId.{NodeId}
 use Rattle.cd_syntax.specs.Name.{Name}
-use Rattle.cd_syntax.specs.TypeTree.{Declarations}
 use Rattle.cd_model.specs.AllOf.{AllOf, AnyOf}
 use Rattle.cd_model.specs.BuiltIns.{DATA}
 use Rattle.cd_model.specs.Formula.{Graph}
-use Rattle.cd_model.specs.Scope.{Scope}
 use Rattle.cd_model.specs.Thing.{Thing, IsElement, Atom}
-use Rattle.cd_program.specs.Expr.{FunctionTree, function}
-use Rattle.cd_program.specs.PlainExpr.{plain_function}
+use Rattle.cd_program.specs.Expr.{Program}
 use Rattle.cd_meaning.specs.Sets.{◌⊆◌, elements_of}
 use Rattle.cd_names.specs.ProgramFaults.{Seen}
 use Rattle.cd_typing.specs.declared.rule.Rule.{Rule}
 use Rattle.cd_typing.specs.declared.rule.Rule.TheVariants as rule
 use Rattle.cd_least.specs.Faults.{FunctionFault}
+use Rattle.cd_resolved.specs.Resolved.{function_of}
+use Rattle.cd_resolved.specs.declared.function_nodes.FunctionNodes.{FunctionNodes}
 use Rattle.cd_check.specs.declared.base.Base.{Base}
 use Rattle.cd_check.specs.declared.fault.CheckError.{CheckError}
-use Rattle.cd_check.specs.declared.program.Promised.{Promised}
 use Rattle.cd_check.specs.Inner.FunctionNames.{begins_at, is_main}
 use Rattle.cd_check.specs.Inner.Known.{Fails}
-use Rattle.cd_check.specs.Inner.Promises.{HasPromise, ArePairs}
+use Rattle.cd_check.specs.Inner.Promises.{ArePairs}
 use Rattle.cd_check.specs.Inner.Ready.{scope_of, seen_by}
-use Rattle.cd_check.specs.Inner.SoundNames.{AreSoundSignatures, FunctionIsSound}
+use Rattle.cd_check.specs.Inner.SoundNames.{FunctionIsSound}
 
-abbrev pub function_of : Promised → FunctionTree
-function_of one = plain_function one.function.now
-
-abbrev pub SignaturesAreSound : Declarations → FunctionTree → Type 0
-SignaturesAreSound types (function at name name_at interface branches) =
-    AreSoundSignatures types interface
-
-abbrev pub IsPromised : Scope → Graph → Promised → Type 0
-IsPromised scope graph one =
-    HasPromise scope graph (function_of one) one.promise.arrows.items one.promise.whole
-
-abbrev pub IsSoundFunction : Declarations → Seen → Promised → Type 0
-IsSoundFunction types seen one = FunctionIsSound types seen (function_of one)
+abbrev pub IsSoundFunction : Program → Seen → FunctionNodes → Type 0
+IsSoundFunction program seen one = FunctionIsSound program seen (function_of one)
 
 -- the nodes of its arrows are of the graph
-abbrev pub HasArrows : Graph → Promised → Type 0
-HasArrows graph one = ArePairs graph one.promise.arrows.items
+abbrev pub HasArrows : Graph → FunctionNodes → Type 0
+HasArrows graph one = ArePairs graph one.arrows.items
 
 abbrev pub ResultsAreData : Graph → List (NodeId × NodeId) → Type 0
 ResultsAreData graph arrows =
     AllOf (λ arrow. elements_of graph arrow.1 ⊆ elements_of graph DATA) arrows
 
 -- what `main` gives is data
-abbrev pub MainGives : Graph → Promised → Type 0
+abbrev pub MainGives : Graph → FunctionNodes → Type 0
 MainGives graph one = is_main (function_of one) ≡ true
-    → ResultsAreData graph one.promise.arrows.items
+    → ResultsAreData graph one.arrows.items
 
 -- a fault of one of the functions
-abbrev pub FunctionsFail : Base → Graph → List Thing → List Promised → CheckError → Type 0
-FunctionsFail base graph table promised =
+abbrev pub FunctionsFail : Base → Graph → List Thing → List FunctionNodes → CheckError → Type 0
+FunctionsFail base graph table functions =
     Fails graph (seen_by base []) table (λ types at reported d.
-    AnyOf (λ one. FunctionFault (scope_of base) types (function_of one) at reported d) promised)
+    AnyOf (λ one. FunctionFault (scope_of base) types (function_of one) at reported d) functions)
 
 -- a result of one of the arrows, which is no data, is reported here
 abbrev pub ResultsFault : Graph → (here : ℕ) → List (NodeId × NodeId) → (at : ℕ) → Rule → Thing
@@ -64,10 +51,10 @@ ResultsFault graph here arrows at reported d = (at ≡ here) × (reported ≡ ru
     × IsElement d
     × (elements_of graph DATA d → ⊥) × AnyOf (λ arrow. elements_of graph arrow.1 d) arrows
 
-abbrev pub MainsFault : Graph → List Promised → (at : ℕ) → Rule → Thing → Type 0
-MainsFault graph promised at reported d = AnyOf (λ one. (is_main (function_of one) ≡ true)
-    × ResultsFault graph (begins_at (function_of one)) one.promise.arrows.items at reported d)
-    promised
+abbrev pub MainsFault : Graph → List FunctionNodes → (at : ℕ) → Rule → Thing → Type 0
+MainsFault graph functions at reported d = AnyOf (λ one. (is_main (function_of one) ≡ true)
+    × ResultsFault graph (begins_at (function_of one)) one.arrows.items at reported d)
+    functions
 
 -- the node holds the atom of this name alone
 pub record IsAtomNode (graph : Graph) (name : Name) (id : NodeId) : Type 0 where

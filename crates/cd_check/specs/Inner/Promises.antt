@@ -11,6 +11,8 @@ use Rattle.cd_typing.specs.Typ.{Typ, typ, In, Types, with_type}
 use Rattle.cd_typing.specs.Interfaces.{Arrow, AreWritten, IsIntersection}
 use Rattle.cd_typing.specs.Branches.{Cover}
 use Rattle.cd_typing.specs.Typing.{BodiesHave}
+use Rattle.cd_resolved.specs.Resolved.{function_of}
+use Rattle.cd_resolved.specs.declared.function_nodes.FunctionNodes.{FunctionNodes}
 use Rattle.cd_check.specs.Inner.Environment.{Nodes, AreOfTypes, AreSame}
 
 -- arrows between nodes, as arrows between types
@@ -50,6 +52,11 @@ abbrev pub HasPromise : Scope → Graph → FunctionTree → List (NodeId × Nod
     → Type 0
 HasPromise scope graph (function at name name_at interface branches) arrows whole =
     IsPromise scope graph interface arrows whole
+
+-- of one with its nodes
+abbrev pub IsPromised : Scope → Graph → FunctionNodes → Type 0
+IsPromised scope graph one =
+    HasPromise scope graph (function_of one) one.arrows.items one.whole
 
 abbrev pub KeepsPromise : Scope → Graph → Nodes → FunctionTree → List (NodeId × NodeId)
     → (whole : NodeId) → Type 0

@@ -1,26 +1,28 @@
 -- What a check goes by, and when a graph is ready for it.
-use Rattle.std.specs.Prelude.{◌≡◌, ◌<◌, ◌++◌, Bool, true, false, List, [], ◌∷◌, map, length}
+use Rattle.std.specs.Prelude.{◌≡◌, ◌<◌, ◌++◌, Bool, true, false, [], ◌∷◌, map, length}
 use Rattle.cd_sets.specs.declared.node_id.NodeId.{NodeId}
-use Rattle.cd_syntax.specs.Name.{Name}
+use Rattle.cd_model.specs.AllOf.{AllOf}
 use Rattle.cd_model.specs.BuiltIns.{built_ins}
 use Rattle.cd_model.specs.Formula.{Graph, IsGraph}
 use Rattle.cd_model.specs.Scope.{Scope}
-use Rattle.cd_resolve.specs.Faults.{Fault, IsFaultOfDeclarations}
-use Rattle.cd_resolve.specs.Named.{AreNamed, plain_names, declared_by}
-use Rattle.cd_meaning.specs.Sets.{Set, ◌⊆◌, elements_of}
+use Rattle.cd_program.specs.Expr.{Program}
+use Rattle.cd_meaning.specs.Sets.{◌⊆◌, elements_of}
 use Rattle.cd_typing.specs.Later.{IsLater}
 use Rattle.cd_typing.specs.Operators.{truth}
 use Rattle.cd_operators.specs.Tools.{AreTools}
 use Rattle.cd_names.specs.ProgramFaults.{Seen}
+use Rattle.cd_placed.specs.Patterns.{all_patterns}
+use Rattle.cd_resolved.specs.Resolved.{IsResolved, function_nodes, program_of as program_in}
 use Rattle.cd_check.specs.declared.base.Base.{Base}
-use Rattle.cd_syntax.specs.TypeTree.{Declarations}
+use Rattle.cd_check.specs.Inner.Divided.{AreSited, sited_pattern}
 use Rattle.cd_check.specs.Inner.Environment.{Nodes, AreNodesOf, declared}
+use Rattle.cd_check.specs.Inner.Promises.{IsPromised}
 
-abbrev pub declarations_of : Base → Declarations
-declarations_of base = declared_by base.names.now
+abbrev pub program_of : Base → Program
+program_of base = program_in base.resolved.now
 
 abbrev pub scope_of : Base → Scope
-scope_of base = declarations_of base ∷ []
+scope_of base = (program_of base).types ∷ []
 
 -- the variables that are seen, and then the functions
 abbrev pub seen_by : Base → Nodes → Nodes
@@ -40,8 +42,12 @@ pub record IsReady (base : Base) (graph : Graph) (locals : Nodes) : Type 0 where
   pub begins : graph ≡ built_ins ++ more
   pub sound : IsGraph graph
   pub nodes : AreNodesOf graph (seen_by base locals)
-  pub named : AreNamed graph (plain_names base.names.now)
-  pub names_sound : (fault : Fault) → IsFaultOfDeclarations (declarations_of base) fault → ⊥
+  -- the program is resolved: each of its patterns has its site in the graph, and each of its functions
+  -- promises what its nodes say
+  pub resolved : IsResolved base.resolved.now
+  pub patterns : map sited_pattern base.sites.now ≡ all_patterns (program_of base)
+  pub sited : AreSited graph (scope_of base) base.sites.now
+  pub promised : AllOf (IsPromised (scope_of base) graph) (function_nodes base.resolved.now)
   pub tools : AreTools graph base.tools
   pub yes : IsTruth graph true base.yes
   pub no : IsTruth graph false base.no

@@ -1,39 +1,27 @@
--- Expressions whose names are sound, by their parts.
-use Rattle.std.specs.Prelude.{◌≡◌, true, List, ◌++◌}
+-- Expressions of a program whose names are sound, by their parts.
+use Rattle.std.specs.Prelude.{◌≡◌, true, ◌++◌}
 use Rattle.cd_syntax.specs.Name.{IsLabel}
-use Rattle.cd_syntax.specs.TypeTree.{Tree, Declarations}
-use Rattle.cd_syntax.specs.WellMadePattern.{IsWellMadePattern, IsWellMadeConstant}
-use Rattle.cd_model.specs.AllOf.{AllOf}
+use Rattle.cd_syntax.specs.WellMadePattern.{IsWellMadeConstant}
 use Rattle.cd_program.specs.Expr.{Expr, expr, Kind, Constant, Variable, Tuple, Sequence, Record, Xml}
 use Rattle.cd_program.specs.Expr.{Function, Apply, Match, Try, Map, Transform, Let, If, Chain, Call}
 use Rattle.cd_program.specs.Expr.{Exprs, NoExpr, AnExpr, Items, NoItem, AnItem, Item, One, Splice}
 use Rattle.cd_program.specs.Expr.{Run, Fields, NoField, AField, Tails, NoTail, ATail, Tail, Operand}
 use Rattle.cd_program.specs.Expr.{Without, Select, Branches, NoBranch, ABranch, FunctionTree, function}
-use Rattle.cd_program.specs.Expr.{Signature}
-use Rattle.cd_resolve.specs.Faults.{Fault, IsFaultOfType}
+use Rattle.cd_program.specs.Expr.{Program}
 use Rattle.cd_names.specs.Labels.{LacksLabel}
-use Rattle.cd_names.specs.ProgramFaults.{Seen, is_seen, names_of, with_name, IsFaultOfPattern}
+use Rattle.cd_names.specs.ProgramFaults.{Seen, is_seen, names_of, with_name}
+use Rattle.cd_resolved.specs.Parts.{IsFunctionOf, IsPatternOf}
 
 -- there is an expression
 abbrev pub HasFirst : Exprs → Type 0
 HasFirst NoExpr = ⊥
 HasFirst (AnExpr e rest) = Unit {0}
 
-module _ (types : Declarations) where
-  pub record IsSoundPattern (pattern : Tree) : Type 0 where
-    pub well_made : IsWellMadePattern pattern
-    pub sound : (fault : Fault) → IsFaultOfPattern types pattern fault → ⊥
-
-  pub record IsSoundType (tree : Tree) : Type 0 where
-    pub well_made : IsWellMadePattern tree
-    pub sound : (fault : Fault) → IsFaultOfType types tree fault → ⊥
-
-  abbrev pub PatternsAreSound : Branches → Type 0
-  PatternsAreSound NoBranch = Unit {0}
-  PatternsAreSound (ABranch pattern body rest) = IsSoundPattern pattern × PatternsAreSound rest
-
-  abbrev pub AreSoundSignatures : List Signature → Type 0
-  AreSoundSignatures = AllOf (λ one. IsSoundType one.takes × IsSoundType one.gives)
+module _ (program : Program) where
+  -- the patterns of branches are patterns of the program
+  abbrev pub ArePatternsOf : Branches → Type 0
+  ArePatternsOf NoBranch = Unit {0}
+  ArePatternsOf (ABranch pattern body rest) = IsPatternOf program pattern × ArePatternsOf rest
 
   abbrev mutual
     pub IsSound : Seen → Expr → Type 0
@@ -54,7 +42,7 @@ module _ (types : Declarations) where
     KindIsSound seen (Map value branches) = IsSound seen value × BranchesAreSound seen branches
     KindIsSound seen (Transform value branches) =
         IsSound seen value × BranchesAreSound seen branches
-    KindIsSound seen (Let pattern value rest) = IsSoundPattern pattern × IsSound seen value
+    KindIsSound seen (Let pattern value rest) = IsPatternOf program pattern × IsSound seen value
         × IsSound (names_of pattern ++ seen) rest
     KindIsSound seen (If condition then_one else_one) =
         IsSound seen condition × IsSound seen then_one × IsSound seen else_one
@@ -90,9 +78,10 @@ module _ (types : Declarations) where
 
     pub BranchesAreSound : Seen → Branches → Type 0
     BranchesAreSound seen NoBranch = Unit {0}
-    BranchesAreSound seen (ABranch pattern body rest) = IsSoundPattern pattern
+    BranchesAreSound seen (ABranch pattern body rest) = IsPatternOf program pattern
         × IsSound (names_of pattern ++ seen) body × BranchesAreSound seen rest
 
     pub FunctionIsSound : Seen → FunctionTree → Type 0
     FunctionIsSound seen (function at name name_at interface branches) =
-        AreSoundSignatures interface × BranchesAreSound (with_name name seen) branches
+        IsFunctionOf program (function at name name_at interface branches)
+        × BranchesAreSound (with_name name seen) branches

@@ -1,19 +1,14 @@
-use Rattle.std.specs.Prelude.{codes}
-use Rattle.cd_base.specs.declared.status.Status.TheVariants.{Done}
-use Rattle.cd_program.specs.PlainProgram.{plain_program}
+use Rattle.std.proofs.Common.{subst}
+use Rattle.std.specs.Prelude.{IfOk}
+use Rattle.cd_program.specs.Expr.{Program}
 use Rattle.cd_replies.specs.Message.{reply_of}
-use Rattle.cd_replies.specs.Reply.{says}
-use Rattle.cd_replies.proofs.Messages.{replies}
-use Rattle.cd_checking.specs.CheckAnswer.{ProgramAnswer, accepted, ill_typed}
+use Rattle.cd_checking.specs.CheckAnswer.{ProgramAnswer}
 use Rattle.cd_checking.proofs.of_program.Goals as goal
 
--- the typing rules type it
-pub returns-in-None : goal.returns-in-None
-returns-in-None c =
-    replies c.accepted.result (says Done (codes "accepted"))
-    (ProgramAnswer c.args.file.now c.args.text.now (plain_program c.args.program.now)) c.accepted.ensures
-    (accepted (rw c.in-None.is at c.in_ok-no_types.ensures))
+pub resolved-requires-clause-read : goal.resolved-requires-clause-read
+resolved-requires-clause-read c = (c.args.text.now, c.requires.reads)
 
--- or a rule is reported
-pub returns-in-Some : goal.returns-in-Some
-returns-in-Some c = ill_typed (reply_of c.in-Some.message) (rw c.in-Some.is at c.in_ok-no_types.ensures)
+pub returns : goal.returns
+returns c =
+    subst (λ (program : Program). IfOk c.of_resolved.result (λ message. ProgramAnswer c.args.file.now c.args.text.now program (reply_of message)))
+    c.in_ok-program.ensures.program c.of_resolved.ensures

@@ -1,22 +1,13 @@
 -- What is known of the graph of a world while the entries of functions are added.
-use Rattle.std.specs.Prelude.{◌≡◌, ◌++◌, ◌∷◌, [], List, length}
+use Rattle.std.specs.Prelude.{◌≡◌, ◌++◌, List, length}
 use Rattle.cd_model.specs.AllOf.{AllOf}
 use Rattle.cd_model.specs.Formula.{Graph, IsGraph}
+use Rattle.cd_model.specs.Scope.{Scope}
 use Rattle.cd_program.specs.Expr.{FunctionTree}
-use Rattle.cd_resolve.specs.Faults.{Fault, IsFaultOfDeclarations}
-use Rattle.cd_resolve.specs.Named.{AreNamed, plain_names, declared_by}
-use Rattle.cd_resolve.specs.declared.names.Names.{Names}
 use Rattle.cd_asking.specs.Mappings.{Mappings}
-use Rattle.cd_closures.specs.Inner.Asked.{IsAsked, IsBelow}
+use Rattle.cd_closures.specs.Inner.Asked.{IsBelow}
 use Rattle.cd_closures.specs.Inner.Tables.{IsTable}
 use Rattle.cd_closures.specs.declared.asked.Asked.{Asked}
-
--- it has nodes for the names of types, and for the arrows that are asked
-pub record IsReady (longer : Graph) (names : Names) (asked : List Asked) : Type 0 where
-  pub sound : IsGraph longer
-  pub named : AreNamed longer (plain_names names)
-  pub names_sound : (fault : Fault) → IsFaultOfDeclarations (declared_by names) fault → ⊥
-  pub nodes : AllOf (IsAsked longer) asked
 
 -- it begins with a sound graph, whose nodes these arrows are between
 pub record Begins (graph longer : Graph) (asked : List Asked) : Type 0 where
@@ -27,10 +18,8 @@ pub record Begins (graph longer : Graph) (asked : List Asked) : Type 0 where
 
 -- Of functions, of which some are left before and after, a table that was right is right of those
 -- that were added since
-abbrev pub AddsFunctions : (longer : Graph) → Names → List Asked
-    → (before after : List FunctionTree)
-    → (old new : Mappings) → Type 0
-AddsFunctions longer names asked before after old new = (graph : Graph) (all : List FunctionTree)
-    → Begins graph longer asked
-    → IsTable graph (declared_by names ∷ []) asked all before old
-    → IsTable graph (declared_by names ∷ []) asked all after new
+abbrev pub AddsFunctions : (longer : Graph) → Scope → List Asked
+    → (before after : List FunctionTree) → (old new : Mappings) → Type 0
+AddsFunctions longer scope asked before after old new = (graph : Graph) (all : List FunctionTree)
+    → Begins graph longer asked → IsTable graph scope asked all before old
+    → IsTable graph scope asked all after new

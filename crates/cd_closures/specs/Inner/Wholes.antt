@@ -1,30 +1,15 @@
 -- Nodes that hold just the functions in all arrows of an interface.
-use Rattle.std.specs.Prelude.{◌≡◌, ◌<◌, ℕ, Bool, List, ◌∷◌, map, length}
+use Rattle.std.specs.Prelude.{◌≡◌, ◌<◌, ℕ, Bool, List, map, length}
 use Rattle.cd_sets.specs.declared.node_id.NodeId.{NodeId}
-use Rattle.cd_model.specs.AllOf.{AllOf}
-use Rattle.cd_model.specs.BuiltIns.{EMPTY, ANY}
-use Rattle.cd_model.specs.Formula.{Graph, Formula, Arrow, And, formulas_of, formula_at, nodes, IsIn}
+use Rattle.cd_model.specs.Formula.{Graph, nodes, IsIn}
 use Rattle.cd_model.specs.Interfaces.{Interfaces, OfWritten, admits}
 use Rattle.cd_model.specs.Scope.{Scope}
 use Rattle.cd_model.specs.Thing.{Thing, Function, Pairs, IsElement}
 use Rattle.cd_model.specs.Types.{closure_maps}
 use Rattle.cd_program.specs.Expr.{Signature}
-use Rattle.cd_evaluation.specs.ProgramInterfaces.{IsEnoughFor, written_arrow}
-
--- the meet of all functions and of arrows
-abbrev pub arrow_formula : NodeId × NodeId → Formula
-arrow_formula arrow = Arrow arrow.0 arrow.1
-
-abbrev pub arrow_formulas : List (NodeId × NodeId) → List Formula
-arrow_formulas arrows = Arrow EMPTY ANY ∷ map arrow_formula arrows
-
-abbrev pub AreNodes : Graph → List (NodeId × NodeId) → Type 0
-AreNodes graph arrows =
-    AllOf (λ arrow. (arrow.0.0 < length graph) × (arrow.1.0 < length graph)) arrows
-
-pub record IsMeet (graph : Graph) (arrows : List (NodeId × NodeId)) (id : NodeId) : Type 0 where
-  pub is_node : id.0 < length graph
-  pub formula : formula_at graph id ≡ And (formulas_of (arrow_formulas arrows))
+use Rattle.cd_evaluation.specs.ProgramInterfaces.{IsEnoughFor, interface_of, written_arrow}
+use Rattle.cd_resolved.specs.Resolved.{function_of}
+use Rattle.cd_resolved.specs.declared.function_nodes.FunctionNodes.{FunctionNodes}
 
 module _ (scope : Scope) where
   -- one function with this interface, and which function elements that admits
@@ -49,3 +34,7 @@ module _ (scope : Scope) where
   IsRight graph interface argument result answer =
       (count : ℕ) → IsEnoughFor scope count interface
       → closure_maps (nodes graph) (admits (alone count interface)) 0 argument result answer
+
+  -- the whole of a function holds just the functions in all arrows of its interface
+  abbrev pub HasWhole : Graph → FunctionNodes → Type 0
+  HasWhole graph one = IsWhole graph (interface_of (function_of one)) one.whole

@@ -2,7 +2,8 @@
 use Rattle.cd_syntax.specs.TypeTree.{Tree}
 use Rattle.cd_evaluation.specs.Code as evaluation
 use Rattle.cd_evaluation.specs.ProgramCode.{code_of}
-use Rattle.cd_code.specs.Compiled.{program_of, IsPatternOf}
+use Rattle.cd_resolved.specs.Parts.{IsPatternOf}
+use Rattle.cd_code.specs.Compiled.{program_of}
 use Rattle.cd_code.specs.declared.code.Code.{Code}
 
 -- the code of its program

@@ -2,7 +2,7 @@ use Rattle.std.proofs.lemmas.Result.{IfOk-weaker}
 use Rattle.cd_cells.specs.Cells.{thing_at}
 use Rattle.cd_cells.specs.Table.{table}
 use Rattle.cd_machine.specs.PlainRan.{plain_ran}
-use Rattle.cd_program.specs.PlainProgram.{plain_program}
+use Rattle.cd_resolved.specs.Resolved.{program_of}
 use Rattle.cd_replies.specs.Message.{reply_of}
 use Rattle.cd_replies.specs.Reply.{not_input}
 use Rattle.cd_replies.proofs.Messages.{replies}
@@ -14,7 +14,7 @@ use Rattle.cd_running.proofs.of_value.Goals as goal
 -- no run on a value that is taken is stuck
 pub reported-requires-clause-goes : goal.reported-requires-clause-goes
 reported-requires-clause-goes c =
-    let program = plain_program c.args.program.now in
+    let program = program_of c.args.program in
     let found = c.typed_programs_have_main.ensures program c.requires.typed.typed c.requires.typed.sound c.requires.typed.functions in
     let runs = rw c.in-Some.is at c.in_ok-run_on.ensures.runs in
     not_stuck program found.0 (thing_at (table c.args.values.now) c.args.value.0) c.args.units (plain_ran (table c.run_on.new.values) c.in-Some.ran)
@@ -23,7 +23,7 @@ reported-requires-clause-goes c =
 -- the program does not take the value
 pub returns-in-None : goal.returns-in-None
 returns-in-None c =
-    let program = plain_program c.args.program.now in
+    let program = program_of c.args.program in
     let v = thing_at (table c.args.values.now) c.args.value.0 in
     let found = c.typed_programs_have_main.ensures program c.requires.typed.typed c.requires.typed.sound c.requires.typed.functions in
     let outside = rw c.in-None.is at c.in_ok-run_on.ensures.runs in
@@ -33,7 +33,7 @@ returns-in-None c =
 -- or what a run comes to is reported
 pub returns-in-Some : goal.returns-in-Some
 returns-in-Some c =
-    let program = plain_program c.args.program.now in
+    let program = program_of c.args.program in
     let v = thing_at (table c.args.values.now) c.args.value.0 in
     let found = c.typed_programs_have_main.ensures program c.requires.typed.typed c.requires.typed.sound c.requires.typed.functions in
     let result = plain_ran (table c.run_on.new.values) c.in-Some.ran in

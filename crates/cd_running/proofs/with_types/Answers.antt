@@ -1,4 +1,4 @@
-use Rattle.cd_program.specs.PlainProgram.{plain_program}
+use Rattle.cd_resolved.specs.Resolved.{program_of}
 use Rattle.cd_replies.proofs.TwoFiles.{no_document}
 use Rattle.cd_running.specs.Inner.OnDocument.{OnDocument}
 use Rattle.cd_running.specs.RunAnswer.{document_refused}
@@ -6,7 +6,7 @@ use Rattle.cd_running.proofs.with_types.Goals as goal
 
 pub returns-in-Err : goal.returns-in-Err
 returns-in-Err g c =
-    let program = plain_program c.args.program.now in
+    let program = program_of c.args.program in
     no_document (OnDocument program c.args.units c.args.document.now)
     _ _ c.args.document.now c.in-Err.error (rw c.in-Err.is at c.read_file.ensures) c.no_text.result c.no_text.ensures
     (λ disk reply refusal file has. document_refused program has reply refusal)

@@ -1,27 +1,32 @@
 //! The run of the workload's program.
-ghost use Rattle.std.specs.Prelude.{◌≡◌, ◌<◌, ◌≤◌, ◌+◌, IfOk, length};
+ghost use Rattle.std.specs.Prelude.{◌≡◌, ◌<◌, ◌≤◌, ◌+◌, IfOk, OnOk, length};
 ghost use Rattle.cd_cells.specs.Cells.{thing_at};
 ghost use Rattle.cd_cells.specs.Table.{table};
+ghost use Rattle.cd_empty.specs.Seen.{graph_of};
 ghost use Rattle.cd_evaluation.specs.Runs.{Done};
 ghost use Rattle.cd_machine.specs.PlainRan.{plain_outcome, IsOutcome};
 ghost use Rattle.cd_model.specs.Thing.{Thing};
 ghost use Rattle.cd_program.specs.PlainProgram.{plain_program};
+ghost use Rattle.cd_program.specs.WellMade.{IsWellMadeProgram};
+ghost use Rattle.cd_resolved.specs.Resolved.{program_of, IsResolved, Extends};
 ghost use Rattle.cd_running.specs.Ending.{text_of};
-ghost use Rattle.cd_running.specs.TypedProgram.{IsTypedProgram};
-ghost use Rattle.cd_running.specs.WorkAnswer.{Runs};
+ghost use Rattle.cd_running.specs.Inner.WorkCounted.{IsOfRun};
 ghost use Rattle.cd_running.specs.Inner.WorkProgram.{work_program};
 ghost use Rattle.cd_running.specs.Inner.WorkValues.{document};
 
 use crate::on_value::run_on;
 use crate::workload::document::work_document;
 use cd_cells::{ValueId, Values};
-use cd_checking::no_types;
+use cd_check::world_of;
+use cd_checking::{no_types, resolved};
+use cd_empty::World;
 use cd_machine::{Outcome, Ran};
 use cd_print::print_value;
 use cd_program::program::Program;
 use cd_replies::document::read_document;
 use cd_replies::reader::read_program;
 use cd_replies::refusal::RefusalError;
+use cd_resolved::Resolved;
 use std::alloc::{AllocError, Global};
 
 const PROGRAM: &str = "\
@@ -44,13 +49,54 @@ pub(crate) struct Ended {
 /// The run of the program on the document of so many entries.
 pub(crate) fn run_document(alloc: Global, size: u32) -> Result<Ended, AllocError>
     requires most { size ≤ 100000 }
-    ensures { IfOk result (λ ended. (value : Thing) × Runs size ended.used value
-        × (ended.length ≡ length (text_of value))) }
+    ensures { IfOk result (IsOfRun size) }
 {
-    let program = typed_program(alloc)?;
+    let program = workload_program(alloc)?;
+    let program = resolved(alloc, &program)?;
+    run_program(alloc, program, size)
+}
+
+// The same, where the program is resolved.
+fn run_program(alloc: Global, program: Resolved<'_>, size: u32) -> Result<Ended, AllocError>
+    requires most { size ≤ 100000 }
+    requires is { program_of program ≡ work_program }
+    requires resolved { IsResolved program }
+    ensures { IfOk result (IsOfRun size) }
+{
+    let mut world = world_of(alloc, &program)?;
+    has_types(alloc, &mut world, &program)?;
+    in_world(alloc, &mut world, program, size)
+}
+
+// Asks for the types of the program, which has types.
+fn has_types(alloc: Global, world: &mut World, program: &Resolved<'_>) -> Result<(), AllocError>
+    requires is { program_of program.now ≡ work_program }
+    requires resolved { IsResolved program.now }
+    requires begins { Extends program.now (graph_of world.old) }
+    ensures { OnOk result (Extends program.now (graph_of world.new)) }
+{
+    match no_types(alloc, world, "work", PROGRAM, program)? {
+        None => Ok(()),
+        Some(_) => unreachable!(),
+    }
+}
+
+// The same, in a world that begins with the nodes of the program.
+fn in_world(
+    alloc: Global,
+    world: &mut World,
+    program: Resolved<'_>,
+    size: u32,
+) -> Result<Ended, AllocError>
+    requires most { size ≤ 100000 }
+    requires is { program_of program ≡ work_program }
+    requires resolved { IsResolved program }
+    requires begins { Extends program (graph_of world.old) }
+    ensures { IfOk result (IsOfRun size) }
+{
     let mut values = Values::new(alloc);
     let value = document_value(alloc, &mut values, size)?;
-    match run_on(alloc, &program, &mut values, value, UNITS)? {
+    match run_on(alloc, world, program, &mut values, value, UNITS)? {
         Some(ran) => counted(alloc, &values, ran),
         None => unreachable!(),
     }
@@ -75,19 +121,15 @@ fn counted(alloc: Global, values: &Values, ran: Ran) -> Result<Ended, AllocError
     }
 }
 
-// The program, which has types.
-fn typed_program(alloc: Global) -> Result<Program, AllocError>
+// The program.
+fn workload_program(alloc: Global) -> Result<Program, AllocError>
     ensures is { IfOk result (λ program. plain_program program ≡ work_program) }
-    ensures typed { IfOk result (λ program. IsTypedProgram (plain_program program)) }
+    ensures well_made { IfOk result (λ program. IsWellMadeProgram (plain_program program)) }
 {
-    let program = match read_program(alloc, PROGRAM) {
-        Ok(program) => program,
-        Err(RefusalError::Memory) => return Err(AllocError),
+    match read_program(alloc, PROGRAM) {
+        Ok(program) => Ok(program),
+        Err(RefusalError::Memory) => Err(AllocError),
         Err(RefusalError::Refused(_)) => unreachable!(),
-    };
-    match no_types(alloc, "work", PROGRAM, &program)? {
-        None => Ok(program),
-        Some(_) => unreachable!(),
     }
 }
 

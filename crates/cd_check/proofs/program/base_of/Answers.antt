@@ -22,7 +22,8 @@ returns-clause-ready c =
     c.graph.ensures.sound (later_of c.args.world.now c.put_tools.new.world tools.grows tools.sound)
     (later_of c.put_tools.new.world c.truth.new.world yes.grows yes.sound)
     (later_of c.truth.new.world c.truth-2.new.world no.grows no.sound)
-    c.graph.ensures.built_in.0 c.graph.ensures.built_in.1 c.requires.nodes c.requires.named c.requires.names_sound tools.tools
+    c.graph.ensures.built_in.0 c.graph.ensures.built_in.1 c.requires.nodes c.requires.resolved c.requires.patterns
+    c.requires.sited c.requires.promised tools.tools
     (truth_of (graph_of c.truth.new.world) true (chars (codes "true")) c.in_ok-yes.yes (ap (λ (name : Name). Atom name) true_characters)
     yes.node yes.atom)
     (truth_of (graph_of c.truth-2.new.world) false (chars (codes "false")) c.in_ok-no.no (ap (λ (name : Name). Atom name) false_characters)

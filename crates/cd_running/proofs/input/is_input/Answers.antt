@@ -1,41 +1,33 @@
-use Rattle.std.proofs.Common.{◌∷◌, [], sym, subst}
+use Rattle.std.proofs.Common.{sym, subst}
 use Rattle.std.proofs.lemmas.Option.{same_Some}
 use Rattle.std.proofs.lemmas.Result.{IfOk-weaker}
 use Rattle.cd_cells.specs.Cells.{thing_at}
 use Rattle.cd_cells.specs.Table.{table}
-use Rattle.cd_model.specs.AllOf.{AllOf}
+use Rattle.cd_graph.specs.Nodes.{nodes}
+use Rattle.cd_model.specs.Formula.{Graph}
+use Rattle.cd_names.specs.Arrows.{AreArrows}
 use Rattle.cd_program.specs.PlainExpr.{plain_function}
-use Rattle.cd_resolve.specs.Faults.{Fault, IsFaultOfDeclarations}
-use Rattle.cd_resolve.specs.Named.{declared_by}
-use Rattle.cd_code.specs.Compiled.{program_of}
-use Rattle.cd_code.proofs.SoundParts.{sound_interfaces, declarations_sound}
-use Rattle.cd_evaluation.specs.ProgramFunctions.{all_functions}
+use Rattle.cd_typing.specs.Typed.{scope_of}
 use Rattle.cd_evaluation.specs.ProgramInterfaces.{interface_of}
-use Rattle.cd_running.specs.Inner.Inputs.{AnswersAsArguments, IsSoundSignature}
-use Rattle.cd_running.proofs.ArrowsAnswered.{as_input}
-use Rattle.cd_running.proofs.MainInterface.{interface_is}
-use Rattle.cd_running.proofs.MainFound.{sound_among}
+use Rattle.cd_resolved.specs.Resolved.{program_of}
+use Rattle.cd_running.proofs.ArrowsAnswered.{arrows_take_nodes, as_input}
 use Rattle.cd_running.proofs.input.is_input.Goals as goal
 
-pub takes-requires-clause-sound : goal.takes-requires-clause-sound
-takes-requires-clause-sound c =
-    let program = program_of c.args.code.now in
-    let main = plain_function c.in-Some.main.now in
-    subst (AllOf (IsSoundSignature (declared_by c.args.names.now))) (interface_is c.in-Some.main.now)
-    (subst (λ types. AllOf (IsSoundSignature types) (interface_of main)) (sym c.requires.declared)
-    (sound_among program.types (all_functions program) (sound_interfaces program c.requires.typed.well_made c.requires.typed.sound) main c.in-Some.ensures.among))
-
-pub takes-requires-clause-names_sound : goal.takes-requires-clause-names_sound
-takes-requires-clause-names_sound c =
-    let program = program_of c.args.code.now in
-    subst (λ types. (fault : Fault) → IsFaultOfDeclarations types fault → ⊥) (sym c.requires.declared)
-    (declarations_sound program c.requires.typed.well_made c.requires.typed.sound)
+pub takes-requires-clause-arrows : goal.takes-requires-clause-arrows
+takes-requires-clause-arrows c =
+    let scope = scope_of (program_of c.args.program.now) in
+    let interface = interface_of (plain_function c.in-Some.main.now) in
+    let arrows = c.arrows_of-arrows.result.now in
+    arrows_take_nodes scope (nodes c.graph.result.now) interface arrows
+    (subst (λ (graph : Graph). AreArrows scope graph interface arrows) (sym c.graph.ensures) c.arrows_of-arrows.ensures)
 
 pub returns-in-Some : goal.returns-in-Some
-returns-in-Some c = record {
-  answer = IfOk-weaker c.takes.result _ _ (λ answer is main main_is.
-      as_input (program_of c.args.code.now) (declared_by c.args.names.now) c.requires.declared (thing_at (table c.args.values.now) c.args.value.0)
-      (plain_function c.in-Some.main.now) main (same_Some _ _ (c.in-Some.ensures.main main main_is)) answer
-      (subst (λ arrows. AnswersAsArguments (declared_by c.args.names.now ∷ []) (thing_at (table c.args.values.now) c.args.value.0) arrows answer)
-      (sym (interface_is c.in-Some.main.now)) is)) c.takes.ensures.answer;
-}
+returns-in-Some c =
+    let program = program_of c.args.program.now in
+    let f = plain_function c.in-Some.main.now in
+    let arrows = c.arrows_of-arrows.result.now in
+    IfOk-weaker c.takes.result _ _ (λ answer is main main_is.
+    as_input program (nodes c.graph.result.now) (thing_at (table c.args.values.now) c.args.value.0) c.requires.document
+    f main (same_Some _ _ (c.in-Some.ensures.main main main_is)) arrows
+    (subst (λ (graph : Graph). AreArrows (scope_of program) graph (interface_of f) arrows) (sym c.graph.ensures) c.arrows_of-arrows.ensures) answer is)
+    c.takes.ensures

@@ -1,0 +1,15 @@
+use Rattle.std.proofs.Common.{ap, ◌∙◌}
+use Rattle.std.proofs.lemmas.Result.{IfOk-weaker}
+use Rattle.cd_program.specs.PlainProgram.{plain_program}
+use Rattle.cd_resolved.proofs.PartsFound.{all_functions_found, all_patterns_found}
+use Rattle.cd_resolved.proofs.parts.program.parts_of.Goals as goal
+
+pub returns-clause-functions : goal.returns-clause-functions
+returns-clause-functions c = IfOk-weaker c.collect.result _ _
+    (λ parts is. ap (λ all. all.functions) is
+    ∙ all_functions_found (plain_program c.args.program.now)) c.collect.ensures
+
+pub returns-clause-patterns : goal.returns-clause-patterns
+returns-clause-patterns c = IfOk-weaker c.collect.result _ _
+    (λ parts is. ap (λ all. all.patterns) is
+    ∙ all_patterns_found (plain_program c.args.program.now)) c.collect.ensures

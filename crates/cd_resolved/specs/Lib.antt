@@ -1,0 +1,5 @@
+pub mod Kernels
+pub mod Interfaces
+pub mod Parts
+pub mod Resolved
+pub mod Inner
