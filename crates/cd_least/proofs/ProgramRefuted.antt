@@ -10,6 +10,7 @@ use Rattle.cd_meaning.specs.Sets.{◌⊆◌}
 use Rattle.cd_typing.specs.declared.rule.Rule.{Rule}
 use Rattle.cd_typing.specs.Interfaces.{Arrow, AreWritten}
 use Rattle.cd_typing.specs.Typ.{In, BuiltIn, Types, AreNarrower}
+use Rattle.cd_typing.specs.Kept.{Anything}
 use Rattle.cd_typing.specs.Typed.{scope_of, AreDeclared, HasOwnType, GivesData, IsTyped}
 use Rattle.cd_typing.proofs.Narrowing.{below_itself, below_one, narrow_kind}
 use Rattle.cd_least.specs.Faults.{FunctionFault}
@@ -56,7 +57,7 @@ module _ (scope : Scope) where
 module _ (program : Program) where
   functions_none : (types others : Types) → AreNarrower types others → (functions : List FunctionTree) (at : ℕ) (reported : Rule) (d : Thing)
       → AnyOf (λ f. FunctionFault (scope_of program) types f at reported d ⊎ MainFault program f at reported d) functions
-      → AllOf (HasOwnType (scope_of program) others) functions → AllOf (GivesData (scope_of program)) functions → ⊥
+      → AllOf (HasOwnType (scope_of program) Anything others) functions → AllOf (GivesData (scope_of program)) functions → ⊥
   functions_none types others below [] at reported d fault all data_all = fault
   functions_none types others below (f ∷ functions) at reported d (inl (inl fault)) all data_all =
       refuted_function (scope_of program) f types at reported d fault all.0.0

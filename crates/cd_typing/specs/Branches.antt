@@ -1,5 +1,5 @@
 -- Branches: which elements come to each of them, and what their variables capture.
-use Rattle.std.specs.Prelude.{◌≡◌, ◌⊎◌, List, Option, Some, None}
+use Rattle.std.specs.Prelude.{◌≡◌, ◌⊎◌, List, [], ◌∷◌, Option, Some, None}
 use Rattle.cd_syntax.specs.Name.{Name}
 use Rattle.cd_syntax.specs.TypeTree.{Tree}
 use Rattle.cd_model.specs.AllOf.{AllOf}
@@ -10,6 +10,10 @@ use Rattle.cd_matching.specs.Takes.{WrittenTakes}
 use Rattle.cd_program.specs.Expr.{Branches, NoBranch, ABranch}
 use Rattle.cd_meaning.specs.Sets.{Set}
 use Rattle.cd_typing.specs.Typ.{Typ, In, Types, type_at}
+
+abbrev pub patterns_of : Branches → List Tree
+patterns_of NoBranch = []
+patterns_of (ABranch pattern body rest) = pattern ∷ patterns_of rest
 
 -- the types are those of just the names that capture something, and hold what these capture
 abbrev pub FitsOne : Option Typ → Option Thing → Type 0

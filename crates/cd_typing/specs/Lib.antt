@@ -2,9 +2,12 @@ pub mod Typ
 pub mod Later
 pub mod Interfaces
 pub mod Branches
+pub mod Kept
 pub mod Results
 pub mod RuleTexts
 pub mod Operators
+pub mod Rules
 pub mod Typing
 pub mod Typed
+pub mod Sites
 pub mod Examples

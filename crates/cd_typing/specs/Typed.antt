@@ -7,7 +7,8 @@ use Rattle.cd_program.specs.Expr.{FunctionTree, function, Program}
 use Rattle.cd_meaning.specs.Sets.{◌⊆◌}
 use Rattle.cd_typing.specs.Typ.{Typ, In, BuiltIn, Types}
 use Rattle.cd_typing.specs.Interfaces.{Arrow, AreWritten, IsIntersection}
-use Rattle.cd_typing.specs.Typing.{FunctionHas}
+use Rattle.cd_typing.specs.Kept.{Kept, Anything}
+use Rattle.cd_typing.specs.Rules.{FunctionHas}
 
 -- the names that a program's types see
 abbrev pub scope_of : Program → Scope
@@ -34,13 +35,17 @@ module _ (scope : Scope) where
       × AllOf (λ arrow. In arrow.result ⊆ BuiltIn DATA) arrows
 
   -- it has the type of its interface
-  abbrev pub HasOwnType : Types → FunctionTree → Type 0
-  HasOwnType types f = (t : Typ) × IsOfInterface f t × FunctionHas scope types f t
+  abbrev pub HasOwnType : Kept → Types → FunctionTree → Type 0
+  HasOwnType kept types f = (t : Typ) × IsOfInterface f t × FunctionHas kept scope types f t
 
 -- Each function that is declared has the type of its interface, where each name that is declared
--- has the type of its interface. What `main` gives is data
-pub record IsTyped (program : Program) : Type 0 where
+-- has the type of its interface. What `main` gives is data. What comes to a match is kept for it
+pub record IsTypedWithin (kept : Kept) (program : Program) : Type 0 where
   pub types : Types
   pub declared : AreDeclared (scope_of program) program.functions types
-  pub functions : AllOf (HasOwnType (scope_of program) types) program.functions
+  pub functions : AllOf (HasOwnType (scope_of program) kept types) program.functions
   pub main : AllOf (GivesData (scope_of program)) program.functions
+
+-- the same where matches may be of anything
+abbrev pub IsTyped : Program → Type 0
+IsTyped program = IsTypedWithin Anything program
