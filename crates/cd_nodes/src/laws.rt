@@ -11,6 +11,7 @@ ghost use Rattle.cd_resolve.specs.Faults.{Fault, IsFaultOfType, IsFaultOfDeclara
 ghost use Rattle.cd_names.specs.ProgramFaults.{IsFaultOfProgram};
 ghost use Rattle.cd_typing.specs.Typed.{IsTyped, scope_of};
 ghost use Rattle.cd_evaluation.specs.ProgramFunctions.{all_functions, PlacesDiffer};
+ghost use Rattle.cd_safety.specs.Accepted.{IsAccepted};
 ghost use Rattle.cd_safety.specs.KindsIn.{KindsOfFunction};
 ghost use Rattle.cd_safety.specs.PatternsIn.{EachOfFunction};
 ghost use Rattle.cd_safety.specs.PatternTypes.{IsTypedPattern};
@@ -50,6 +51,21 @@ pub fn programs_have_typed_patterns()
         → AllOf (EachOfFunction (IsTypedPattern (scope_of program))) program.functions }
 {}
 
+/// A program with types, whose names are sound, is accepted where its constants and characters are
+/// in range, those of its patterns too, and no two functions begin at one place.
+pub fn sound_programs_are_accepted()
+    ensures { (program : Program) → IsTyped program → IsWellMadeProgram program
+        → ((fault : Fault) → IsFaultOfProgram program fault → ⊥)
+        → AllOf (KindsOfFunction InRange) program.functions
+        → AllOf (EachOfFunction ConstantsInRange) program.functions
+        → PlacesDiffer (all_functions program)
+        → IsAccepted program }
+{
+    // The contracts of these calls: its patterns have types, so the program is accepted.
+    programs_have_typed_patterns();
+    typed_programs_are_accepted();
+}
+
 /// A program with types, whose names are sound, is safe where its constants and characters are in
 /// range, those of its patterns too, and no two functions begin at one place.
 pub fn sound_programs_are_safe()
@@ -60,8 +76,7 @@ pub fn sound_programs_are_safe()
         → PlacesDiffer (all_functions program)
         → IsSafeProgram program }
 {
-    // The contracts of these calls: the patterns have types, so the program is accepted, and safe.
-    programs_have_typed_patterns();
-    typed_programs_are_accepted();
+    // The contracts of these calls: the program is accepted, and so it is safe.
+    sound_programs_are_accepted();
     accepted_programs_are_safe();
 }

@@ -7,7 +7,7 @@ use Rattle.cd_syntax.specs.declared.builtin.BuiltinName.TheVariants as builtin
 use Rattle.cd_syntax.specs.Name.{Name, IsLabel, is_word}
 use Rattle.cd_model.specs.BuiltIns.{built_ins, node, INT, DATA}
 use Rattle.cd_model.specs.Formula as formula
-use Rattle.cd_model.specs.Formula.{Formula, Graph, IsGraph, formula_at, holds, in_node}
+use Rattle.cd_model.specs.Formula.{Formula, Graph, IsGraph, formula_at, holds, in_node, nodes}
 use Rattle.cd_model.specs.Membership.{reader}
 use Rattle.cd_model.specs.Scope.{Scope}
 use Rattle.cd_model.specs.Thing.{Thing, Function, IsElement, IsData}
@@ -24,11 +24,13 @@ use Rattle.cd_matching.specs.Take.{take}
 use Rattle.cd_matching.specs.Takes.{WrittenTakes, IsRight}
 use Rattle.cd_matching.specs.PatternsAlike.{Alike}
 use Rattle.cd_meaning.specs.Sets.{◌⊆◌}
-use Rattle.cd_typing.specs.Branches.{FitsOne, Fit}
+use Rattle.cd_program.specs.Expr.{Expr, expr, Variable, NoBranch, ABranch}
+use Rattle.cd_typing.specs.Branches.{FitsOne, Fit, Cover}
 use Rattle.cd_typing.specs.Interfaces.{Arrow, AllArrows, AreWritten, IsIntersection}
+use Rattle.cd_typing.specs.Kept.{Kept, Anything, Matches}
+use Rattle.cd_typing.specs.Rules.{FunctionHas}
 use Rattle.cd_typing.specs.Typ.{Typ, typ, In, IsType, BuiltIn, Types}
-use Rattle.cd_typing.specs.Typed.{scope_of}
-use Rattle.cd_typing.specs.Typing.{FunctionHas}
+use Rattle.cd_typing.specs.Typed.{scope_of, IsTypedWithin}
 use Rattle.cd_typing.proofs.Subsets.{itself}
 use Rattle.cd_safety.specs.Accepted.{IsAccepted}
 use Rattle.cd_safety.specs.Examples.{int_tree, x_tree, identity, identity_program}
@@ -40,11 +42,11 @@ use Rattle.cd_safety.proofs.BuiltInElements.{integer_here}
 use Rattle.cd_safety.proofs.ClosuresTyped.{maps_into}
 use Rattle.cd_safety.proofs.GraphsJoined.{behind, later_holds}
 
-abbrev scope : Scope
+abbrev pub scope : Scope
 scope = scope_of identity_program
 
 -- the integers, and the functions from integers to integers
-abbrev int : Typ
+abbrev pub int : Typ
 int = typ built_ins INT
 
 int_is : IsType int
@@ -72,7 +74,7 @@ int_holds = later_holds built_ins arrow_graph (record { more = formula.Arrow INT
 abbrev arrows : List Arrow
 arrows = record { argument = int; result = int } ∷ []
 
-arrows_are : AreWritten scope (record { takes = int_tree; gives = int_tree } ∷ []) arrows
+pub arrows_are : AreWritten scope (record { takes = int_tree; gives = int_tree } ∷ []) arrows
 arrows_are = let stands = built_in_stands [] scope (record { from = 0; to = 0 }) builtin.Int in ((int_is, stands), (int_is, stands), tt)
 
 within : In self ⊆ AllArrows arrows
@@ -118,39 +120,58 @@ fits e inside name = by_test (bytes_eq (codes "x") name)
 abbrev types : Types
 types = (codes "main", self) ∷ []
 
-typed : FunctionHas scope types identity self
-typed = (
-  arrows,
-  self,
-  arrows_are,
-  intersection,
-  (
-    (
-      λ e element inside. inl (just (codes "x") e, x_takes e),
-      (
-        λ e captures first. (
-          own,
-          int,
-          (int_is, tt),
-          λ d caught come. subst (λ found. Fit own found) (x_captures d caught come.takes) (fits d come.in_set),
-          int_is,
-          (int, refl, itself (In int)),
-          itself (In int),
-        ),
-        tt,
-      ),
-    ),
-    tt,
-  ),
-  itself (In self),
-)
-
 int_in_data : In int ⊆ BuiltIn DATA
 int_in_data e element inside =
     let n = integer_here e element inside in
     (data_are [] no_closure e (elements_are_sound e element)).1 (subst IsData (sym n.1) tt)
 
-label : (name : Name) → is_word name ≡ true → bytes_eq name (codes "_") ≡ false → IsLabel name
+abbrev x_alone : Expr
+x_alone = expr (record { from = 0; to = 0 }) (Variable (codes "x"))
+
+-- the pattern takes all integers
+abbrev covers : Type 0
+covers = Cover scope (ABranch x_tree x_alone NoBranch) (In int)
+
+pub all_taken : covers
+all_taken e element inside = inl (just (codes "x") e, x_takes e)
+
+module _ (kept : Kept) (matches : Matches kept (x_tree ∷ []) (In int) covers) where
+  has_type : FunctionHas kept scope types identity self
+  has_type = (
+    arrows,
+    self,
+    arrows_are,
+    intersection,
+    (
+      (
+        matches,
+        (
+          λ e captures first. (
+            own,
+            int,
+            (int_is, tt),
+            λ d caught come. subst (λ found. Fit own found) (x_captures d caught come.takes) (fits d come.in_set),
+            int_is,
+            (int, refl, itself (In int)),
+            itself (In int),
+          ),
+          tt,
+        ),
+      ),
+      tt,
+    ),
+    itself (In self),
+  )
+
+  pub has_types : IsTypedWithin kept identity_program
+  has_types = record {
+    types = types;
+    declared = (refl, (arrows, arrows_are, intersection), tt);
+    functions = ((self, (arrows, arrows_are, intersection), has_type), tt);
+    main = (λ same. (arrows, arrows_are, (int_in_data, tt)), tt);
+  }
+
+pub label : (name : Name) → is_word name ≡ true → bytes_eq name (codes "_") ≡ false → IsLabel name
 label name word other = (word, λ same. true≢false (sym ((bytes_eq-Decides name (codes "_")).1 same) ∙ other))
 
 captures_its_name : CapturesItsNames scope x_tree
@@ -162,12 +183,7 @@ captures_its_name name = by_test (bytes_eq (codes "x") name)
 
 pub identity_is_accepted : IsAccepted identity_program
 identity_is_accepted = record {
-  typed = record {
-    types = types;
-    declared = (refl, (arrows, arrows_are, intersection), tt);
-    functions = ((self, (arrows, arrows_are, intersection), typed), tt);
-    main = (λ same. (arrows, arrows_are, (int_in_data, tt)), tt);
-  };
+  typed = has_types Anything all_taken;
   well_made = (
     tt,
     (

@@ -6,6 +6,7 @@ pub mod ClosuresDecided
 pub mod StandInsAgree
 pub mod StandIns
 pub mod ValuesWithin
+pub mod ValuesExpected
 pub mod Applied
 pub mod SortsByParts
 pub mod SequencesGood
@@ -59,8 +60,10 @@ pub mod MainDeclared
 pub mod DataInTypes
 pub mod ProgramGiven
 pub mod ProgramSafe
+pub mod SitesKept
 pub mod PartsShown
 pub mod SoundKinds
 pub mod AcceptedPrograms
 pub mod Examples
+pub mod ExamplesWithin
 mod KindsTogether

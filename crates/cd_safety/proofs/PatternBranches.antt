@@ -16,8 +16,9 @@ use Rattle.cd_matching.specs.WrittenPattern.{pattern_of}
 use Rattle.cd_program.specs.Expr.{Expr, Branches, NoBranch, ABranch}
 use Rattle.cd_meaning.specs.Sets.{Set, ◌⊆◌}
 use Rattle.cd_typing.specs.Branches.{FitsOne, IsFirst, HoldCaptured, IsTaken, Cover}
+use Rattle.cd_typing.specs.Kept.{Kept}
+use Rattle.cd_typing.specs.Rules.{Has}
 use Rattle.cd_typing.specs.Typ.{Typ, In, IsType, Types, type_at, AreTypes}
-use Rattle.cd_typing.specs.Typing.{Has}
 use Rattle.cd_safety.specs.OfInterface.{HasArrows}
 use Rattle.cd_safety.specs.PatternResults.{AreBoth, CapturesRelated, IsStandIn}
 use Rattle.cd_safety.specs.PatternTypes.{IsTypedPattern, AreTypedPatterns, HasNodesOf, HasNodesOfAll}
@@ -221,23 +222,23 @@ module _ (interfaces : Interfaces) (scope : Scope) where
             )
 
     -- the body of a branch has a type within what is wanted, where its variables have types that hold what they capture of the value
-    pub body_has : (types : Types) (body : Expr) (wanted : Set)
+    pub body_has : (kept : Kept) (types : Types) (body : Expr) (wanted : Set)
         → ((e : Thing) (caught : Captures Name) → IsFirst scope before pattern (In matched) e caught
         → (own : Types) × (s : Typ) × AreTypes own × HoldCaptured scope own before pattern (In matched)
-        × IsType s × Has scope (own ++ types) body s × (In s ⊆ wanted))
+        × IsType s × Has kept scope (own ++ types) body s × (In s ⊆ wanted))
         → (own : Types) × (s : Typ) × AreTypes own × ValuesFit interfaces own captures
-        × IsType s × Has scope (own ++ types) body s × (In s ⊆ wanted)
-    body_has types body wanted bodies =
+        × IsType s × Has kept scope (own ++ types) body s × (In s ⊆ wanted)
+    body_has kept types body wanted bodies =
         let come = some_element in
         let known = bodies come.0 come.1 come.2 in
         (known.0, known.1, known.2, values_fit known.0 known.2 known.3, known.4, known.5, known.6)
 
     -- and so for what comes after a `let`
-    pub rest_has : (types : Types) (rest : Expr) (t : Typ)
+    pub rest_has : (kept : Kept) (types : Types) (rest : Expr) (t : Typ)
         → ((e : Thing) (caught : Captures Name) → IsFirst scope before pattern (In matched) e caught
-        → (own : Types) × AreTypes own × HoldCaptured scope own before pattern (In matched) × Has scope (own ++ types) rest t)
-        → (own : Types) × AreTypes own × ValuesFit interfaces own captures × Has scope (own ++ types) rest t
-    rest_has types rest t rests =
+        → (own : Types) × AreTypes own × HoldCaptured scope own before pattern (In matched) × Has kept scope (own ++ types) rest t)
+        → (own : Types) × AreTypes own × ValuesFit interfaces own captures × Has kept scope (own ++ types) rest t
+    rest_has kept types rest t rests =
         let come = some_element in
         let known = rests come.0 come.1 come.2 in
         (known.0, known.1, values_fit known.0 known.1 known.2, known.3)

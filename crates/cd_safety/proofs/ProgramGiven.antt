@@ -9,8 +9,9 @@ use Rattle.cd_model.proofs.Covered.{each_parts}
 use Rattle.cd_program.specs.Expr.{FunctionTree, function, Program}
 use Rattle.cd_program.specs.WellMade.{AreWellMadeFunctions}
 use Rattle.cd_typing.specs.Interfaces.{Arrow, AreWritten, IsIntersection}
+use Rattle.cd_typing.specs.Kept.{Kept}
 use Rattle.cd_typing.specs.Typ.{Typ, Types, AreTypes}
-use Rattle.cd_typing.specs.Typed.{scope_of, IsOfInterface, AreDeclared, GivesData, HasOwnType}
+use Rattle.cd_typing.specs.Typed.{scope_of, IsOfInterface, AreDeclared, GivesData, HasOwnType, IsTypedWithin}
 use Rattle.cd_evaluation.specs.Code.{Code, place_of, named}
 use Rattle.cd_evaluation.specs.ProgramCode.{code_of}
 use Rattle.cd_evaluation.specs.ProgramFunctions.{within_all, functions_within, all_functions, function_at}
@@ -18,6 +19,7 @@ use Rattle.cd_evaluation.specs.ProgramInterfaces.{interface_of, arrows_of, count
 use Rattle.cd_evaluation.proofs.CountIsEnough.{count_is_enough_at}
 use Rattle.cd_evaluation.proofs.FunctionsFound.{functions_found, declared_is_found}
 use Rattle.cd_safety.specs.Accepted.{IsAccepted}
+use Rattle.cd_safety.specs.ComesWithin.{KeepsTypes}
 use Rattle.cd_safety.specs.GoodInterface.{HasGuardedInterface}
 use Rattle.cd_safety.specs.KindsIn.{KindsOfFunction}
 use Rattle.cd_safety.specs.OfInterface.{AreArrowsAt, AreArrowsOf, HasArrows}
@@ -62,7 +64,7 @@ declared_are_types scope (function at name name_at interface branches ∷ functi
   declared_are_types scope functions types are.2,
 )
 
-module _ (program : Program) (accepted : IsAccepted program) where
+module _ (program : Program) (accepted : IsAccepted program) (kept : Kept) (typing : IsTypedWithin kept program) where
   abbrev scope : Scope
   scope = scope_of program
 
@@ -73,10 +75,10 @@ module _ (program : Program) (accepted : IsAccepted program) where
   interfaces = interfaces_of program
 
   abbrev types : Types
-  types = accepted.typed.types
+  types = typing.types
 
   abbrev fact : ℕ → Fields → Type 0
-  fact = Fact scope code interfaces
+  fact = Fact kept scope code interfaces
 
   abbrev IsGoodOne : FunctionTree → Type 0
   IsGoodOne = IsGoodFunction scope code
@@ -85,7 +87,7 @@ module _ (program : Program) (accepted : IsAccepted program) where
   pub record IsDeclaredFunction (f : FunctionTree) : Type 0 where
     pub good : IsGoodOne f
     pub written : FunctionIsWritten (IsGoodPattern scope) IsGoodOne f
-    pub typed : HasOwnType scope types f
+    pub typed : HasOwnType scope kept types f
     pub gives_data : GivesData scope f
 
   good_ones : (functions : List FunctionTree) → AllOf (λ f. function_at program (place_of f) ≡ Some f) functions
@@ -96,7 +98,7 @@ module _ (program : Program) (accepted : IsAccepted program) where
 
   declared_ones : (functions : List FunctionTree) → AreWellMadeFunctions functions → AllOf (KindsOfFunction IsSoundKind) functions
       → AllOf (EachOfFunction (IsTypedPattern scope)) functions → AllOf (EachOfFunction (CapturesItsNames scope)) functions
-      → AllOf IsGoodOne functions → AllOf IsGoodOne (within_all functions) → AllOf (HasOwnType scope types) functions
+      → AllOf IsGoodOne functions → AllOf IsGoodOne (within_all functions) → AllOf (HasOwnType scope kept types) functions
       → AllOf (GivesData scope) functions → AllOf IsDeclaredFunction functions
   declared_ones [] made kinds patterns named_ones good within typed gives = tt
   declared_ones (f ∷ rest) made kinds patterns named_ones good within typed gives =
@@ -115,7 +117,7 @@ module _ (program : Program) (accepted : IsAccepted program) where
       let good = good_ones (all_functions program) (functions_found program accepted.places) accepted.guarded in
       let two = each_parts IsGoodOne program.functions (within_all program.functions) good in
       declared_ones program.functions accepted.well_made.1 accepted.kinds accepted.patterns accepted.names two.0 two.1
-      accepted.typed.functions accepted.typed.main
+      typing.functions typing.main
 
   pub are_arrows : (place : ℕ) (f : FunctionTree) → function_at program place ≡ Some f → HasGuardedInterface scope f
       → (arrows : List Arrow) → AreWritten scope (interface_of f) arrows → AreArrowsOf interfaces place arrows
@@ -139,7 +141,7 @@ module _ (program : Program) (accepted : IsAccepted program) where
 
   names_fit : NamesFit interfaces types (named code NoField)
   names_fit name t found =
-      let known = declared_is_found scope program.functions types accepted.typed.declared name t found in
+      let known = declared_is_found scope program.functions types typing.declared name t found in
       let is = of_among IsDeclaredFunction program.functions known.f known.among all_declared in (
         Closure (place_of known.f) NoField,
         ap (option_map (λ at. Closure at NoField)) known.found,
@@ -147,9 +149,9 @@ module _ (program : Program) (accepted : IsAccepted program) where
         declared_in known.f is t known.of_interface,
       )
 
-  sees_declared : Sees scope code interfaces types NoField
+  sees_declared : Sees kept scope code interfaces types NoField
   sees_declared = record {
-    are_types = declared_are_types scope program.functions types accepted.typed.declared;
+    are_types = declared_are_types scope program.functions types typing.declared;
     fit = names_fit;
     good = (good_by_parts fact interfaces).no_field;
   }
@@ -168,8 +170,9 @@ module _ (program : Program) (accepted : IsAccepted program) where
         typed = is.typed.2;
       }) sees_declared.good
 
-  pub safe_code : IsSafeCode scope code interfaces
-  safe_code = record {
+  pub safe_code : KeepsTypes kept → IsSafeCode kept scope code interfaces
+  safe_code keeps = record {
+    keeps = keeps;
     takes = takes_as_written program;
     are_arrows = are_arrows;
     declared = λ name place found.

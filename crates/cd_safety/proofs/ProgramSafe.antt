@@ -14,18 +14,21 @@ use Rattle.cd_program.specs.Expr.{Signature, FunctionTree, Program}
 use Rattle.cd_meaning.specs.Functions.{IsFunction, MapsInto, HasFunction, AllMapInto}
 use Rattle.cd_meaning.specs.Sets.{◌⊆◌}
 use Rattle.cd_typing.specs.Interfaces.{Arrow, IsWritten, AreWritten, IsIntersection}
+use Rattle.cd_typing.specs.Kept.{Kept, Anything}
 use Rattle.cd_typing.specs.Typ.{Typ, In, BuiltIn}
-use Rattle.cd_typing.specs.Typed.{scope_of}
+use Rattle.cd_typing.specs.Typed.{scope_of, IsTypedWithin}
 use Rattle.cd_evaluation.specs.Code.{Code, place_of}
 use Rattle.cd_evaluation.specs.Meaning.{calls}
 use Rattle.cd_evaluation.specs.ProgramCode.{code_of}
 use Rattle.cd_evaluation.specs.ProgramFunctions.{function_at, has_name}
 use Rattle.cd_evaluation.specs.ProgramInterfaces.{interface_of, interfaces_of}
-use Rattle.cd_evaluation.specs.Runs.{Result}
+use Rattle.cd_evaluation.specs.Runs.{Result, Run, ticked}
 use Rattle.cd_safety.specs.Accepted.{IsAccepted}
+use Rattle.cd_safety.specs.ComesWithin.{KeepsTypes, ComesWithin, StaysWithin}
 use Rattle.cd_safety.specs.SafeProgram.{IsDocument, IsMain, ComesTo, RunsSafely, IsSafeProgram}
 use Rattle.cd_safety.specs.Sound.{data_type, IsGood, IsFine}
 use Rattle.cd_safety.specs.ValueIn.{ValueIn, IsTypedValue}
+use Rattle.cd_safety.specs.Ways.{Way, code_by}
 use Rattle.cd_safety.proofs.DataInTypes.{data_is_good, data_stands, value_is_data}
 use Rattle.cd_safety.proofs.FunctionsNamed.{of_named}
 use Rattle.cd_safety.proofs.MainDeclared.{gives_data}
@@ -33,6 +36,7 @@ use Rattle.cd_safety.proofs.OperandsStandIn.{data_is_type}
 use Rattle.cd_safety.proofs.ProgramGiven.{HasInterface, interface_is, IsDeclaredFunction, all_declared, declared_in}
 use Rattle.cd_safety.proofs.ProgramGiven.{declared_good, safe_code}
 use Rattle.cd_safety.proofs.SafeCalls.{calls_safe}
+use Rattle.cd_safety.proofs.SafeParts.{SafeIn}
 use Rattle.cd_safety.proofs.SafeNames.{Fact}
 use Rattle.cd_safety.proofs.SafeRuns.{tick_safe}
 use Rattle.cd_safety.proofs.StandInsAgree.{agree}
@@ -80,7 +84,8 @@ module _ (arrows : List Arrow) (t : Typ) (is : IsIntersection arrows t) where
     each_maps some (λ pairs has. (maps pairs has).1),
   )
 
-module _ (program : Program) (accepted : IsAccepted program) where
+module _ (program : Program) (accepted : IsAccepted program) (kept : Kept) (keeps : KeepsTypes kept)
+    (typing : IsTypedWithin kept program) where
   abbrev scope : Scope
   scope = scope_of program
 
@@ -91,18 +96,21 @@ module _ (program : Program) (accepted : IsAccepted program) where
   interfaces = interfaces_of program
 
   abbrev fact : ℕ → Fields → Type 0
-  fact = Fact scope code interfaces
+  fact = Fact kept scope code interfaces
+
+  abbrev IsDeclared : FunctionTree → Type 0
+  IsDeclared = IsDeclaredFunction program accepted kept typing
 
   -- `main` is declared
   main_is_declared : (main : FunctionTree) → IsMain program main
-      → (has_name (codes "main") main ≡ true) × IsDeclaredFunction program accepted main
+      → (has_name (codes "main") main ≡ true) × IsDeclared main
   main_is_declared main is =
-      let known = of_named (IsDeclaredFunction program accepted) program.functions (all_declared program accepted) (codes "main")
-      (place_of main) is.declared in
+      let known = of_named IsDeclared program.functions (all_declared program accepted kept typing)
+      (codes "main") (place_of main) is.declared in
       let at_main = subst (λ at. function_at program at ≡ Some known.f)
       known.at_place known.is.good.found in
       let same : known.f ≡ main = same_Some known.f main (sym at_main ∙ is.found) in
-      (subst (λ f. has_name (codes "main") f ≡ true) same known.has_its_name, subst (IsDeclaredFunction program accepted) same known.is)
+      (subst (λ f. has_name (codes "main") f ≡ true) same known.has_its_name, subst IsDeclared same known.is)
 
   -- a value that is data is an element of each type that it is in
   data_in : (v : Thing) → IsTypedValue interfaces v → ValueIn interfaces data_type v → IsDocument v
@@ -110,7 +118,7 @@ module _ (program : Program) (accepted : IsAccepted program) where
       let plain = value_is_data interfaces v typed.is_value inside in
       record { element = data_are_elements v typed.is_value plain; plain = plain }
 
-  module _ (main : FunctionTree) (declared : IsDeclaredFunction program accepted main) (signature : Signature)
+  module _ (main : FunctionTree) (declared : IsDeclared main) (signature : Signature)
       (document : Thing) (is_document : IsDocument document)
       (inside : in_written document (in_scope scope signature.takes) true) where
     abbrev result_type : Written
@@ -126,20 +134,29 @@ module _ (program : Program) (accepted : IsAccepted program) where
           (agree t.graph interfaces document document (data_stands t.graph interfaces document is_document.plain) t.id true).1
           ((found.takes.1.elements document true is_document.element).1 inside)
 
-      each_fine : (units : ℕ) (result : Result) → ComesTo program main document units result
-          → IsFine fact interfaces (ValueIn interfaces found.arrow.result) result.outcome
-      each_fine units result h =
+      abbrev run : (units : ℕ) → Way → Run
+      run units way = ticked (calls (code_by interfaces kept code way) units (Closure (place_of main) NoField) document)
+
+      runs_are_safe : (units : ℕ) → SafeIn kept scope code interfaces found.arrow.result (run units)
+      runs_are_safe units =
           let self = declared.typed.0 in
           let v = Closure (place_of main) NoField in
-          (tick_safe fact interfaces (ValueIn interfaces found.arrow.result) (calls code units v document)
-          (calls_safe scope code interfaces (safe_code program accepted) units self found.arrow.argument found.arrow.result (record {
+          tick_safe fact interfaces (ValueIn interfaces found.arrow.result)
+          (calls_safe kept scope code interfaces (safe_code program accepted kept typing keeps) units self found.arrow.argument
+          found.arrow.result (record {
             self_is = own.whole.is_type;
             s_is = found.takes.0;
             result_is = found.gives.0;
             all_map = found.is;
-          }) v document
-          (declared_good program accepted main declared, declared_in program accepted main declared self declared.typed.1)
-          (data_is_good fact interfaces document is_document.element is_document.plain, document_in))).fine units result h
+          }) v document (
+            declared_good program accepted kept typing main declared,
+            declared_in program accepted kept typing main declared self declared.typed.1,
+          )
+          (data_is_good fact interfaces document is_document.element is_document.plain, document_in))
+
+      each_fine : (units : ℕ) (result : Result) → ComesTo program main document units result
+          → IsFine fact interfaces (ValueIn interfaces found.arrow.result) result.outcome
+      each_fine units result h = (runs_are_safe units).fine units result h
 
       output_is : (v : Thing) → IsGood fact interfaces v → ValueIn interfaces found.arrow.result v
           → IsDocument v × in_written v result_type true
@@ -167,14 +184,35 @@ module _ (program : Program) (accepted : IsAccepted program) where
             data_in v fine.0.typed fine.1;
       }
 
-  pub program_safe : IsSafeProgram program
-  program_safe main is signature among document is_document inside =
+      runs_within : (units : ℕ) (result : Result) → ComesTo program main document units result
+          → ComesWithin kept program main document units result
+      runs_within units result h = (runs_are_safe units).within units result h
+
+      both : RunsSafely program main document result_type × ((units : ℕ) (result : Result) → ComesTo program main document units result
+          → ComesWithin kept program main document units result)
+      both = (runs_safely, runs_within)
+
+  -- its runs are safe, and all that they come to they come to within what is kept
+  each_run : (main : FunctionTree) → IsMain program main → (signature : Signature) → AnyOf (λ one. one ≡ signature) (interface_of main)
+      → (document : Thing) → IsDocument document → in_written document (in_scope scope signature.takes) true
+      → RunsSafely program main document (in_scope scope signature.gives)
+      × ((units : ℕ) (result : Result) → ComesTo program main document units result → ComesWithin kept program main document units result)
+  each_run main is signature among document is_document inside =
       let known = main_is_declared main is in
       let self = known.1.typed.0 in
       let own = interface_is scope main self known.1.typed.1 in
       let gives = gives_data scope main known.0 known.1.gives_data in
-      runs_safely main known.1 signature document is_document inside own
+      both main known.1 signature document is_document inside own
       (arrow_for scope (Maps main known.1 signature document is_document inside self) (interface_of main) own.arrows own.are_written
       (each_maps own.arrows self own.whole own.arrows (in_arrows own.arrows self own.whole)) signature among)
       (arrow_for scope (λ arrow. In arrow.result ⊆ BuiltIn DATA) (interface_of main) gives.arrows gives.are_written gives.give_data
       signature among)
+
+pub program_safe : (program : Program) → IsAccepted program → IsSafeProgram program
+program_safe program accepted main is signature among document is_document inside =
+    (each_run program accepted Anything tt accepted.typed main is signature among document is_document inside).0
+
+pub stays_within : (kept : Kept) (program : Program) → KeepsTypes kept → IsAccepted program → IsTypedWithin kept program
+    → StaysWithin kept program
+stays_within kept program keeps accepted typing main is signature among document is_document inside =
+    (each_run program accepted kept keeps typing main is signature among document is_document inside).1

@@ -20,13 +20,15 @@ use Rattle.cd_matching.specs.WrittenPattern.{pattern_of}
 use Rattle.cd_program.specs.Expr.{FunctionTree, function}
 use Rattle.cd_program.specs.WellMade.{IsWellMadeName}
 use Rattle.cd_typing.specs.Interfaces.{Arrow, AreWritten}
+use Rattle.cd_typing.specs.Kept.{Kept}
+use Rattle.cd_typing.specs.Rules.{FunctionHas}
 use Rattle.cd_typing.specs.Typ.{Typ, IsType, Types, type_at, with_type, AreTypes}
-use Rattle.cd_typing.specs.Typing.{FunctionHas}
 use Rattle.cd_evaluation.specs.Code.{Code, declared_value, named}
 use Rattle.cd_evaluation.specs.Environment.{Env, with_all, with_name, with_capture, captured_env}
 use Rattle.cd_names.specs.ProgramFaults.{names_of}
 use Rattle.cd_evaluation.specs.ProgramInterfaces.{interface_of}
 use Rattle.cd_evaluation.proofs.NamesAreLabels.{names_are_labels}
+use Rattle.cd_safety.specs.ComesWithin.{KeepsTypes}
 use Rattle.cd_safety.specs.GoodInterface.{HasGuardedInterface}
 use Rattle.cd_safety.specs.OfInterface.{AreArrowsOf, HasArrows}
 use Rattle.cd_safety.specs.PatternAnswers.{TakesAsWritten}
@@ -85,12 +87,13 @@ captured_sound fact = record {
   constant = λ is sound. constant_sound fact is;
 }
 
-module _ (scope : Scope) (code : Code) (interfaces : Interfaces) where
+module _ (kept : Kept) (scope : Scope) (code : Code) (interfaces : Interfaces) where
   abbrev pub Fact : ℕ → Fields → Type 0
-  Fact = IsTypedClosure scope code interfaces
+  Fact = IsTypedClosure kept scope code interfaces
 
   -- what is known of the code of a program whose functions are typed
   pub record IsSafeCode : Type 0 where
+    pub keeps : KeepsTypes kept
     pub takes : TakesAsWritten interfaces scope env_of code
     pub are_arrows : (place : ℕ) (f : FunctionTree) → code.function place ≡ Some f → HasGuardedInterface scope f
         → (arrows : List Arrow) → AreWritten scope (interface_of f) arrows → AreArrowsOf interfaces place arrows
@@ -98,7 +101,7 @@ module _ (scope : Scope) (code : Code) (interfaces : Interfaces) where
 
   -- the arrows of a function that is typed are those of its interface
   pub arrows_of_function : IsSafeCode → (place : ℕ) (f : FunctionTree) → code.function place ≡ Some f → HasGuardedInterface scope f
-      → (types : Types) (t : Typ) → FunctionHas scope types f t → HasArrows interfaces place
+      → (types : Types) (t : Typ) → FunctionHas kept scope types f t → HasArrows interfaces place
   arrows_of_function given place (function at name name_at interface branches) found guarded types t typed =
       (typed.0, given.are_arrows place (function at name name_at interface branches) found guarded typed.0 typed.2)
 

@@ -21,6 +21,8 @@ pub mod Safe
 pub mod KindsIn
 pub mod Accepted
 pub mod SafeProgram
+pub mod ComesWithin
+pub mod Ways
 pub mod TypedMain
 pub mod Examples
 pub mod TypedClosure

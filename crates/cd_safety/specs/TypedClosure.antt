@@ -11,8 +11,9 @@ use Rattle.cd_matching.specs.Variables.{binds}
 use Rattle.cd_matching.specs.WrittenPattern.{pattern_of}
 use Rattle.cd_variables.specs.Occurrences.{has, bound}
 use Rattle.cd_program.specs.Expr.{FunctionTree}
+use Rattle.cd_typing.specs.Kept.{Kept}
+use Rattle.cd_typing.specs.Rules.{FunctionHas}
 use Rattle.cd_typing.specs.Typ.{Typ, Types, AreTypes}
-use Rattle.cd_typing.specs.Typing.{FunctionHas}
 use Rattle.cd_evaluation.specs.Code.{Code, place_of, named}
 use Rattle.cd_safety.specs.GoodInterface.{HasGuardedInterface}
 use Rattle.cd_safety.specs.PatternTypes.{IsTypedPattern}
@@ -35,8 +36,8 @@ pub record IsGoodFunction (scope : Scope) (code : Code) (f : FunctionTree) : Typ
   pub found : code.function (place_of f) ≡ Some f
   pub guarded : HasGuardedInterface scope f
 
-pub record IsTypedClosure (scope : Scope) (code : Code) (interfaces : Interfaces) (place : ℕ)
-    (env : Fields) : Type 0 where
+pub record IsTypedClosure (kept : Kept) (scope : Scope) (code : Code) (interfaces : Interfaces)
+    (place : ℕ) (env : Fields) : Type 0 where
   pub f : FunctionTree
   pub found : code.function place ≡ Some f
   pub guarded : HasGuardedInterface scope f
@@ -45,4 +46,4 @@ pub record IsTypedClosure (scope : Scope) (code : Code) (interfaces : Interfaces
   pub are_types : AreTypes types
   pub fit : NamesFit interfaces types (named code env)
   pub t : Typ
-  pub typed : FunctionHas scope types f t
+  pub typed : FunctionHas kept scope types f t
