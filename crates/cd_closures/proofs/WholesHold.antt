@@ -21,7 +21,7 @@ use Rattle.cd_matching.specs.WrittenPattern.{in_scope}
 use Rattle.cd_program.specs.Expr.{Signature}
 use Rattle.cd_names.specs.Arrows.{AreArrows}
 use Rattle.cd_evaluation.specs.ProgramInterfaces.{IsEnoughFor}
-use Rattle.cd_resolved.specs.Interfaces.{IsMeet, arrow_formula, arrow_formulas}
+use Rattle.cd_meet.specs.Meets.{IsMeet, arrow_formula, arrow_formulas}
 use Rattle.cd_closures.specs.Inner.Wholes.{IsWhole, alone}
 
 -- what is in an arrow is a function

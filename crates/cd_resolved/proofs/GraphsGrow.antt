@@ -12,7 +12,8 @@ use Rattle.cd_program.specs.Expr.{Signature}
 use Rattle.cd_resolve.specs.Named.{Names, AreNamed}
 use Rattle.cd_resolve.proofs.Kept.{names_kept}
 use Rattle.cd_names.specs.Arrows.{AreArrows}
-use Rattle.cd_resolved.specs.Interfaces.{IsMeet, HasInterface}
+use Rattle.cd_meet.specs.Meets.{IsMeet}
+use Rattle.cd_resolved.specs.Interfaces.{HasInterface}
 use Rattle.cd_resolved.specs.Resolved.{HasNodes}
 use Rattle.cd_resolved.specs.declared.function_nodes.FunctionNodes.{FunctionNodes}
 

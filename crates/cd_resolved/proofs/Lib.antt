@@ -1,7 +1,7 @@
 mod PartsFound
+mod SitesFound
 mod SlotsFilled
 mod KernelsMade
-mod MeetsPut
 mod InterfacesSound
 mod PartsListed
 mod NumbersFound
@@ -12,5 +12,5 @@ pub mod ConstantsAlike
 pub mod SoundParts
 pub mod GraphsGrow
 pub mod KernelsStay
-pub mod ProgramPatterns
 pub mod ProgramResolved
+pub mod SitePatterns

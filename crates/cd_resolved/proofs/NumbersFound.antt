@@ -6,9 +6,6 @@ use borrow.Author.Count.{below_more}
 use Rattle.cd_syntax.specs.TypeTree.{Tree}
 use Rattle.cd_model.specs.AllOf.{AllOf, AnyOf}
 use Rattle.cd_cells.specs.Slots.{slot_at}
-use Rattle.cd_program.specs.Expr.{FunctionTree}
-use Rattle.cd_evaluation.specs.Code.{place_of}
-use Rattle.cd_evaluation.specs.ProgramFunctions.{PlacesDiffer}
 use Rattle.cd_placed.specs.Patterns.{start_of, StartsDiffer}
 use Rattle.cd_resolved.specs.Inner.Numbers.{AreOnce, AreNumbers}
 
@@ -66,13 +63,6 @@ starts_once (one ∷ all) differ = (differ.0, starts_once all differ.1)
 
 pub once_starts : (all : List Tree) → StartsDiffer all → AreOnce (map start_of all)
 once_starts all differ = once start_of all (starts_once all differ)
-
-places_once : (all : List FunctionTree) → PlacesDiffer all → Differ place_of all
-places_once [] differ = tt
-places_once (one ∷ all) differ = (differ.0, places_once all differ.1)
-
-pub once_places : (all : List FunctionTree) → PlacesDiffer all → AreOnce (map place_of all)
-once_places all differ = once place_of all (places_once all differ)
 
 -- the slots of the places before a number have their numbers
 abbrev HasItsNumber : List ℕ → List (Option ℕ) → ℕ → Type 0

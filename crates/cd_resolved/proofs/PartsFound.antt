@@ -9,17 +9,18 @@ use Rattle.cd_program.specs.Expr.{Select, Branches, NoBranch, ABranch, FunctionT
 use Rattle.cd_program.specs.Expr.{Program}
 use Rattle.cd_evaluation.specs.ProgramFunctions.{functions_in, functions_in_kind, functions_in_exprs, functions_in_items, functions_in_fields}
 use Rattle.cd_evaluation.specs.ProgramFunctions.{functions_in_tails, functions_in_branches, within_all, all_functions}
-use Rattle.cd_resolved.specs.Inner.Collecting.{Parts, nothing, with_function, with_pattern, with_expr, with_kind, with_exprs}
+use Rattle.cd_typing.specs.Sites.{site, Closed, Catching, Filtering}
+use Rattle.cd_resolved.specs.Inner.Collecting.{Parts, nothing, with_function, with_pattern, with_site, with_expr, with_kind, with_exprs}
 use Rattle.cd_resolved.specs.Inner.Collecting.{with_items, with_fields, with_tails, with_branches}
 use Rattle.cd_resolved.specs.Inner.Collecting.{with_functions, with_parts_of_all, parts_of}
 use Rattle.cd_placed.specs.Patterns.{patterns_in, patterns_in_kind, patterns_in_exprs, patterns_in_items, patterns_in_fields}
 use Rattle.cd_placed.specs.Patterns.{patterns_in_tails, patterns_in_branches, patterns_of_functions, all_patterns}
 
 -- one list after another
-after : {X : Type 0} (old one other mid new : List X) → mid ≡ old ++ one → new ≡ mid ++ other → new ≡ old ++ (one ++ other)
+pub after : {X : Type 0} (old one other mid new : List X) → mid ≡ old ++ one → new ≡ mid ++ other → new ≡ old ++ (one ++ other)
 after old one other mid new first second = second ∙ ap (λ all. all ++ other) first ∙ append_assoc old one other
 
-none : {X : Type 0} (old : List X) → old ≡ old ++ []
+pub none : {X : Type 0} (old : List X) → old ≡ old ++ []
 none old = sym (append-nil old)
 
 mutual
@@ -38,19 +39,19 @@ mutual
       (functions_expr content (with_expr attributes (with_expr tag parts))))
   functions_kind (Function (function at name name_at interface branches)) parts =
       after parts.functions (function at name name_at interface branches ∷ []) (functions_in_branches branches) _ _ refl
-      (functions_branches branches (with_function (function at name name_at interface branches) parts))
+      (functions_branches branches (with_site (site Closed branches) (with_function (function at name name_at interface branches) parts)))
   functions_kind (Apply exprs) parts = functions_exprs exprs parts
-  functions_kind (Match e branches) parts =
-      after parts.functions (functions_in e) (functions_in_branches branches) _ _ (functions_expr e parts) (functions_branches branches (with_expr e parts))
-  functions_kind (Try body branches) parts =
-      after parts.functions (functions_in body) (functions_in_branches branches) _ _ (functions_expr body parts) (functions_branches branches (with_expr body parts))
-  functions_kind (Map e branches) parts =
-      after parts.functions (functions_in e) (functions_in_branches branches) _ _ (functions_expr e parts) (functions_branches branches (with_expr e parts))
-  functions_kind (Transform e branches) parts =
-      after parts.functions (functions_in e) (functions_in_branches branches) _ _ (functions_expr e parts) (functions_branches branches (with_expr e parts))
+  functions_kind (Match e branches) parts = let own = with_site (site Closed branches) parts in
+      after parts.functions (functions_in e) (functions_in_branches branches) _ _ (functions_expr e own) (functions_branches branches (with_expr e own))
+  functions_kind (Try body branches) parts = let own = with_site (site Catching branches) parts in
+      after parts.functions (functions_in body) (functions_in_branches branches) _ _ (functions_expr body own) (functions_branches branches (with_expr body own))
+  functions_kind (Map e branches) parts = let own = with_site (site Closed branches) parts in
+      after parts.functions (functions_in e) (functions_in_branches branches) _ _ (functions_expr e own) (functions_branches branches (with_expr e own))
+  functions_kind (Transform e branches) parts = let own = with_site (site Filtering branches) parts in
+      after parts.functions (functions_in e) (functions_in_branches branches) _ _ (functions_expr e own) (functions_branches branches (with_expr e own))
   functions_kind (Let pattern e rest) parts =
-      after parts.functions (functions_in e) (functions_in rest) _ _ (functions_expr e (with_pattern pattern parts))
-      (functions_expr rest (with_expr e (with_pattern pattern parts)))
+      let own = with_pattern pattern (with_site (site Closed (ABranch pattern rest NoBranch)) parts) in
+      after parts.functions (functions_in e) (functions_in rest) _ _ (functions_expr e own) (functions_expr rest (with_expr e own))
   functions_kind (If condition then_one else_one) parts =
       after parts.functions (functions_in condition) (functions_in then_one ++ functions_in else_one) _ _ (functions_expr condition parts)
       (after (with_expr condition parts).functions (functions_in then_one) (functions_in else_one) _ _ (functions_expr then_one (with_expr condition parts))
@@ -106,20 +107,20 @@ mutual
       (after (with_expr tag parts).patterns (patterns_in attributes) (patterns_in content) _ _ (patterns_expr attributes (with_expr tag parts))
       (patterns_expr content (with_expr attributes (with_expr tag parts))))
   patterns_kind (Function (function at name name_at interface branches)) parts =
-      patterns_branches branches (with_function (function at name name_at interface branches) parts)
+      patterns_branches branches (with_site (site Closed branches) (with_function (function at name name_at interface branches) parts))
   patterns_kind (Apply exprs) parts = patterns_exprs exprs parts
-  patterns_kind (Match e branches) parts =
-      after parts.patterns (patterns_in e) (patterns_in_branches branches) _ _ (patterns_expr e parts) (patterns_branches branches (with_expr e parts))
-  patterns_kind (Try body branches) parts =
-      after parts.patterns (patterns_in body) (patterns_in_branches branches) _ _ (patterns_expr body parts) (patterns_branches branches (with_expr body parts))
-  patterns_kind (Map e branches) parts =
-      after parts.patterns (patterns_in e) (patterns_in_branches branches) _ _ (patterns_expr e parts) (patterns_branches branches (with_expr e parts))
-  patterns_kind (Transform e branches) parts =
-      after parts.patterns (patterns_in e) (patterns_in_branches branches) _ _ (patterns_expr e parts) (patterns_branches branches (with_expr e parts))
+  patterns_kind (Match e branches) parts = let own = with_site (site Closed branches) parts in
+      after parts.patterns (patterns_in e) (patterns_in_branches branches) _ _ (patterns_expr e own) (patterns_branches branches (with_expr e own))
+  patterns_kind (Try body branches) parts = let own = with_site (site Catching branches) parts in
+      after parts.patterns (patterns_in body) (patterns_in_branches branches) _ _ (patterns_expr body own) (patterns_branches branches (with_expr body own))
+  patterns_kind (Map e branches) parts = let own = with_site (site Closed branches) parts in
+      after parts.patterns (patterns_in e) (patterns_in_branches branches) _ _ (patterns_expr e own) (patterns_branches branches (with_expr e own))
+  patterns_kind (Transform e branches) parts = let own = with_site (site Filtering branches) parts in
+      after parts.patterns (patterns_in e) (patterns_in_branches branches) _ _ (patterns_expr e own) (patterns_branches branches (with_expr e own))
   patterns_kind (Let pattern e rest) parts =
+      let own = with_pattern pattern (with_site (site Closed (ABranch pattern rest NoBranch)) parts) in
       after parts.patterns (pattern ∷ []) (patterns_in e ++ patterns_in rest) _ _ refl
-      (after (with_pattern pattern parts).patterns (patterns_in e) (patterns_in rest) _ _ (patterns_expr e (with_pattern pattern parts))
-      (patterns_expr rest (with_expr e (with_pattern pattern parts))))
+      (after own.patterns (patterns_in e) (patterns_in rest) _ _ (patterns_expr e own) (patterns_expr rest (with_expr e own)))
   patterns_kind (If condition then_one else_one) parts =
       after parts.patterns (patterns_in condition) (patterns_in then_one ++ patterns_in else_one) _ _ (patterns_expr condition parts)
       (after (with_expr condition parts).patterns (patterns_in then_one) (patterns_in else_one) _ _ (patterns_expr then_one (with_expr condition parts))
@@ -178,15 +179,17 @@ functions_within_all : (functions : List FunctionTree) (parts : Parts)
     → (with_parts_of_all functions parts).functions ≡ parts.functions ++ within_all functions
 functions_within_all [] parts = none parts.functions
 functions_within_all (function at name name_at interface branches ∷ rest) parts =
-    after parts.functions (functions_in_branches branches) (within_all rest) _ _ (functions_branches branches parts)
-    (functions_within_all rest (with_branches branches parts))
+    let own = with_site (site Closed branches) parts in
+    after parts.functions (functions_in_branches branches) (within_all rest) _ _ (functions_branches branches own)
+    (functions_within_all rest (with_branches branches own))
 
 patterns_within_all : (functions : List FunctionTree) (parts : Parts)
     → (with_parts_of_all functions parts).patterns ≡ parts.patterns ++ patterns_of_functions functions
 patterns_within_all [] parts = none parts.patterns
 patterns_within_all (function at name name_at interface branches ∷ rest) parts =
-    after parts.patterns (patterns_in_branches branches) (patterns_of_functions rest) _ _ (patterns_branches branches parts)
-    (patterns_within_all rest (with_branches branches parts))
+    let own = with_site (site Closed branches) parts in
+    after parts.patterns (patterns_in_branches branches) (patterns_of_functions rest) _ _ (patterns_branches branches own)
+    (patterns_within_all rest (with_branches branches own))
 
 pub all_functions_found : (program : Program) → (parts_of program).functions ≡ all_functions program
 all_functions_found program =

@@ -1,5 +1,6 @@
 pub mod Kernels
 pub mod Interfaces
 pub mod Parts
+pub mod PlainSite
 pub mod Resolved
 pub mod Inner

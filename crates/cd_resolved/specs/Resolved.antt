@@ -13,20 +13,22 @@ use Rattle.cd_program.specs.WellMade.{IsWellMadeProgram}
 use Rattle.cd_resolve.specs.Faults.{Fault}
 use Rattle.cd_names.specs.ProgramFaults.{IsFaultOfProgram}
 use Rattle.cd_graph.specs.Nodes.{nodes}
+use Rattle.cd_typing.specs.Sites.{all_sites}
 use Rattle.cd_typing.specs.Typed.{scope_of}
-use Rattle.cd_evaluation.specs.Code.{place_of}
 use Rattle.cd_evaluation.specs.ProgramFunctions.{all_functions, PlacesDiffer}
 use Rattle.cd_evaluation.specs.ProgramInterfaces.{interface_of}
 use Rattle.cd_placed.specs.Patterns.{all_patterns, start_of, StartsDiffer}
 use Rattle.cd_resolved.specs.Interfaces.{HasInterface}
 use Rattle.cd_resolved.specs.Kernels.{IsKernelOf}
+use Rattle.cd_resolved.specs.PlainSite.{plain_site}
 use Rattle.cd_resolved.specs.Inner.Numbers.{AreNumbers}
 use Rattle.cd_resolved.specs.declared.function_nodes.FunctionNodes.{FunctionNodes}
 use Rattle.cd_resolved.specs.declared.pattern_kernel.PatternKernel.{PatternKernel}
 use Rattle.cd_resolved.specs.declared.resolved.Resolved.{Resolved}
+use Rattle.cd_resolved.specs.declared.site_tree.SiteTree.{SiteTree}
 
--- the program, its patterns with their kernels, and its functions with the nodes of their
--- interfaces
+-- the program, its patterns with their kernels, its functions with the nodes of their interfaces,
+-- and its sites
 abbrev pub program_of : Resolved → Program
 program_of resolved = plain_program resolved.functions
 
@@ -35,6 +37,9 @@ kernels_of resolved = resolved.kernels.items
 
 abbrev pub function_nodes : Resolved → List FunctionNodes
 function_nodes resolved = resolved.interfaces.items
+
+abbrev pub site_trees : Resolved → List SiteTree
+site_trees resolved = resolved.sites.items
 
 -- the graph of the declared names and of the types in patterns, and the one with the nodes of
 -- interfaces after these
@@ -72,7 +77,8 @@ pub record IsResolved (resolved : Resolved) : Type 0 where
   pub functions : map function_of (function_nodes resolved) ≡ all_functions (program_of resolved)
   pub interfaces : AllOf (HasNodes (scope_of (program_of resolved)) (program_graph resolved))
       (function_nodes resolved)
-  pub places : AreNumbers (map place_of (all_functions (program_of resolved))) resolved.places
+  -- its sites are in the order of the text
+  pub sites : map plain_site (site_trees resolved) ≡ all_sites (program_of resolved)
   -- both graphs are sound, and the one begins with the other
   pub asked_sound : IsGraph (asked_graph resolved)
   pub graph_sound : IsGraph (program_graph resolved)

@@ -1,7 +1,6 @@
 //! Where the functions and the patterns of a program begin.
 ghost use Rattle.std.specs.Prelude.{◌≡◌, map, IfOk};
 ghost use Rattle.cd_program.specs.PlainProgram.{plain_program};
-ghost use Rattle.cd_evaluation.specs.Code.{place_of};
 ghost use Rattle.cd_evaluation.specs.ProgramFunctions.{all_functions};
 ghost use Rattle.cd_placed.specs.Patterns.{all_patterns, start_of};
 ghost use Rattle.cd_resolved.specs.Inner.Found.{IsFound};
@@ -10,9 +9,8 @@ ghost use Rattle.cd_resolved.specs.Inner.PlainParts.{functions_of, trees_of};
 
 use crate::numbers::numbers_of;
 use crate::parts::{Functions, Parts};
-use crate::starts::{places_of, starts_of};
+use crate::starts::starts_of;
 use cd_cells::Slots;
-use cd_program::expr::FunctionTree;
 use cd_program::program::Program;
 use cd_syntax::type_tree::Tree;
 use std::alloc::{AllocError, Global};
@@ -24,8 +22,6 @@ pub(crate) struct Found<'p> {
     pub(crate) functions: Functions<'p>,
     /// The numbers of its patterns by the places where they begin.
     pub(crate) starts: Slots<usize>,
-    /// The numbers of all functions by their places.
-    pub(crate) places: Slots<usize>,
 }
 
 /// Those of a program of which these are all functions and all patterns.
@@ -42,12 +38,7 @@ pub(crate) fn find<'p>(
 {
     let functions = Functions::new(alloc, program, parts.functions.as_slice())?;
     let starts = by_start(alloc, parts.patterns.as_slice())?;
-    let places = by_place(alloc, parts.functions.as_slice())?;
-    Ok(Found {
-        functions,
-        starts,
-        places,
-    })
+    Ok(Found { functions, starts })
 }
 
 // The numbers of patterns by the places where they begin.
@@ -56,12 +47,4 @@ fn by_start(alloc: Global, patterns: &[&Tree]) -> Result<Slots<usize>, AllocErro
 {
     let starts = starts_of(alloc, patterns)?;
     numbers_of(alloc, starts.as_slice())
-}
-
-// The numbers of functions by their places.
-fn by_place(alloc: Global, functions: &[&FunctionTree]) -> Result<Slots<usize>, AllocError>
-    ensures { IfOk result (AreNumbers (map place_of (functions_of functions.now))) }
-{
-    let places = places_of(alloc, functions)?;
-    numbers_of(alloc, places.as_slice())
 }

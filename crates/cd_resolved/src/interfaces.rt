@@ -13,8 +13,8 @@ ghost use Rattle.cd_resolved.specs.Inner.PlainParts.{functions_of};
 ghost use Rattle.cd_resolved.specs.Inner.SoundInterfaces.{HasSoundInterface};
 
 use crate::function_nodes::FunctionNodes;
-use crate::whole::put_meet;
 use cd_graph::Graph;
+use cd_meet::put_meet;
 use cd_names::{ArrowsBatch, resolve_arrows};
 use cd_program::expr::FunctionTree;
 use cd_resolve::Names;

@@ -1,4 +1,4 @@
-//! The functions and the patterns of a program, and where they stand.
+//! The functions, the patterns and the sites of a program.
 
 mod branches;
 mod collected;

@@ -10,11 +10,12 @@ ghost use Rattle.cd_evaluation.specs.ProgramFunctions.{all_functions, function_a
 ghost use Rattle.cd_placed.specs.Patterns.{all_patterns};
 ghost use Rattle.cd_resolved.specs.Parts.{IsFunctionOf, IsPatternOf};
 ghost use Rattle.cd_resolved.specs.Resolved.{program_of, kernels_of, function_nodes};
-ghost use Rattle.cd_resolved.specs.Resolved.{asked_graph, program_graph, IsResolved};
+ghost use Rattle.cd_resolved.specs.Resolved.{site_trees, asked_graph, program_graph, IsResolved};
 
 use crate::function_nodes::FunctionNodes;
 use crate::parts::Functions;
 use crate::pattern_kernel::PatternKernel;
+use crate::site_tree::SiteTree;
 use crate::starts::{place, start};
 use cd_cells::Slots;
 use cd_graph::Graph;
@@ -33,8 +34,8 @@ pub struct Resolved<'p> {
     pub(crate) starts: Slots<usize>,
     /// All functions with the nodes of their interfaces.
     pub(crate) interfaces: Vec<FunctionNodes<'p>>,
-    /// The numbers of these by the places of the functions.
-    pub(crate) places: Slots<usize>,
+    /// Its sites, a form before its parts.
+    pub(crate) sites: Vec<SiteTree<'p>>,
     /// The nodes of the declared names and of the types in patterns.
     pub(crate) asked: Graph,
     /// These, and after them the nodes of interfaces.
@@ -84,7 +85,7 @@ impl<'p> Resolved<'p> {
         ensures { slice_get (all_functions (program_of self.now)) result
             ≡ Some (plain_function function.now) }
     {
-        match self.places.get(place(function)) {
+        match self.functions.number(place(function)) {
             Some(number) => number,
             None => unreachable!(),
         }
@@ -102,6 +103,13 @@ impl<'p> Resolved<'p> {
         ensures { result.now ≡ function_nodes self.now }
     {
         self.interfaces.as_slice()
+    }
+
+    /// Its sites, in the order of the text, a form before its parts.
+    pub fn sites(&self) -> &[SiteTree<'p>]
+        ensures { result.now ≡ site_trees self.now }
+    {
+        self.sites.as_slice()
     }
 
     /// The nodes of the declared names and of the types in patterns, which values are asked for.

@@ -8,8 +8,9 @@ ghost use Rattle.cd_resolve.specs.Named.{AreNamed, plain_names, declared_by};
 ghost use Rattle.cd_names.specs.ProgramFaults.{IsFaultOfProgram};
 ghost use Rattle.cd_evaluation.specs.ProgramFunctions.{all_functions, PlacesDiffer};
 ghost use Rattle.cd_placed.specs.Patterns.{all_patterns, StartsDiffer};
+ghost use Rattle.cd_typing.specs.Sites.{all_sites};
 ghost use Rattle.cd_resolved.specs.Inner.Found.{IsFound};
-ghost use Rattle.cd_resolved.specs.Inner.PlainParts.{functions_of, trees_of};
+ghost use Rattle.cd_resolved.specs.Inner.PlainParts.{functions_of, trees_of, sites_of};
 ghost use Rattle.cd_resolved.specs.Resolved.{program_of, IsResolved};
 
 use crate::copy::copy;
@@ -42,16 +43,16 @@ pub fn resolve_program<'p>(alloc: Global, program: &'p Program) -> Result<Resolv
     let parts = parts_of(alloc, program)?;
     let mut asked = Graph::new(alloc)?;
     let names = declare(alloc, &mut asked, &program.types)?;
-    resolve_parts(alloc, asked, &names, program, &parts)
+    resolve_parts(alloc, asked, &names, program, parts)
 }
 
-// The nodes of a program with these functions and these patterns, after those of its names.
+// The nodes of a program with these functions, patterns and sites, after those of its names.
 fn resolve_parts<'p>(
     alloc: Global,
     asked: Graph,
     names: &Names<'_>,
     program: &'p Program,
-    parts: &Parts<'p>,
+    parts: Parts<'p>,
 ) -> Result<Resolved<'p>, AllocError>
     requires named { AreNamed (nodes asked) (plain_names names.now) }
     requires declared { declared_by names.now ≡ (plain_program program.now).types }
@@ -59,14 +60,14 @@ fn resolve_parts<'p>(
     requires sound { (fault : Fault) → IsFaultOfProgram (plain_program program.now) fault → ⊥ }
     requires places { PlacesDiffer (all_functions (plain_program program.now)) }
     requires starts { StartsDiffer (all_patterns (plain_program program.now)) }
-    requires functions { functions_of parts.now.functions.items
+    requires functions { functions_of parts.functions.items
         ≡ all_functions (plain_program program.now) }
-    requires patterns { trees_of parts.now.patterns.items
-        ≡ all_patterns (plain_program program.now) }
+    requires patterns { trees_of parts.patterns.items ≡ all_patterns (plain_program program.now) }
+    requires sites { sites_of parts.sites.items ≡ all_sites (plain_program program.now) }
     ensures program { IfOk result (λ resolved. program_of resolved ≡ plain_program program.now) }
     ensures resolved { IfOk result IsResolved }
 {
-    let found = find(alloc, program, parts)?;
+    let found = find(alloc, program, &parts)?;
     with_nodes(alloc, asked, names, program, parts, found)
 }
 
@@ -76,7 +77,7 @@ fn with_nodes<'p>(
     mut asked: Graph,
     names: &Names<'_>,
     program: &'p Program,
-    parts: &Parts<'p>,
+    parts: Parts<'p>,
     found: Found<'p>,
 ) -> Result<Resolved<'p>, AllocError>
     requires named { AreNamed (nodes asked) (plain_names names.now) }
@@ -85,10 +86,10 @@ fn with_nodes<'p>(
     requires sound { (fault : Fault) → IsFaultOfProgram (plain_program program.now) fault → ⊥ }
     requires places { PlacesDiffer (all_functions (plain_program program.now)) }
     requires starts { StartsDiffer (all_patterns (plain_program program.now)) }
-    requires functions { functions_of parts.now.functions.items
+    requires functions { functions_of parts.functions.items
         ≡ all_functions (plain_program program.now) }
-    requires patterns { trees_of parts.now.patterns.items
-        ≡ all_patterns (plain_program program.now) }
+    requires patterns { trees_of parts.patterns.items ≡ all_patterns (plain_program program.now) }
+    requires sites { sites_of parts.sites.items ≡ all_sites (plain_program program.now) }
     requires found { IsFound (plain_program program.now) found }
     ensures program { IfOk result (λ resolved. program_of resolved ≡ plain_program program.now) }
     ensures resolved { IfOk result IsResolved }
@@ -98,17 +99,13 @@ fn with_nodes<'p>(
     let kernels = kernels_of(alloc, &mut asked, names, parts.patterns.as_slice())?;
     let mut graph = copy(alloc, &asked)?;
     let interfaces = interfaces_of(alloc, &mut graph, names, parts.functions.as_slice())?;
-    let Found {
-        functions,
-        starts,
-        places,
-    } = found;
+    let Found { functions, starts } = found;
     Ok(Resolved {
         functions,
         kernels,
         starts,
         interfaces,
-        places,
+        sites: parts.sites,
         asked,
         graph,
     })

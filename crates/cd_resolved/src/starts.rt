@@ -4,7 +4,7 @@ ghost use Rattle.cd_syntax.specs.PlainTree.{plain};
 ghost use Rattle.cd_program.specs.PlainExpr.{plain_function};
 ghost use Rattle.cd_evaluation.specs.Code.{place_of};
 ghost use Rattle.cd_placed.specs.Patterns.{start_of};
-ghost use Rattle.cd_resolved.specs.Inner.PlainParts.{functions_of, trees_of};
+ghost use Rattle.cd_resolved.specs.Inner.PlainParts.{trees_of};
 
 use cd_program::expr::FunctionTree;
 use cd_syntax::type_tree::Tree;
@@ -34,18 +34,4 @@ pub(crate) fn starts_of(alloc: Global, patterns: &[&Tree]) -> Result<Vec<usize>,
         starts.push(start(pattern))?;
     }
     Ok(starts)
-}
-
-/// Where the words `fun` of functions stand, in turn.
-pub(crate) fn places_of(
-    alloc: Global,
-    functions: &[&FunctionTree],
-) -> Result<Vec<usize>, AllocError>
-    ensures { IfOk result (λ places. places.items ≡ map place_of (functions_of functions.now)) }
-{
-    let mut places = Vec::new(alloc);
-    for function in functions {
-        places.push(place(function))?;
-    }
-    Ok(places)
 }

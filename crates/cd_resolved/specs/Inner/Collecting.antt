@@ -1,4 +1,5 @@
--- What a walk over a program collects: the functions that stand in others, and the patterns.
+-- What a walk over a program collects: the functions that stand in others, the patterns, and the
+-- sites.
 use Rattle.std.specs.Prelude.{List, [], ◌∷◌, ◌++◌}
 use Rattle.cd_syntax.specs.TypeTree.{Tree}
 use Rattle.cd_program.specs.Expr.{Expr, expr, Kind, Tuple, Sequence, Record, Xml, Function, Apply}
@@ -7,21 +8,36 @@ use Rattle.cd_program.specs.Expr.{AnExpr, Items, NoItem, AnItem, Item, One, Spli
 use Rattle.cd_program.specs.Expr.{NoField, AField, Tails, NoTail, ATail, Tail, Operand, Without}
 use Rattle.cd_program.specs.Expr.{Select, Branches, NoBranch, ABranch, FunctionTree, function}
 use Rattle.cd_program.specs.Expr.{Program}
+use Rattle.cd_typing.specs.Sites.{Site, site, Closed, Catching, Filtering}
 
 pub record Parts : Type 0 where
   pub functions : List FunctionTree
   pub patterns : List Tree
+  pub sites : List Site
 
 abbrev pub nothing : Parts
-nothing = record { functions = []; patterns = [] }
+nothing = record { functions = []; patterns = []; sites = [] }
 
 abbrev pub with_function : FunctionTree → Parts → Parts
-with_function f parts =
-    record { functions = parts.functions ++ f ∷ []; patterns = parts.patterns }
+with_function f parts = record {
+  functions = parts.functions ++ f ∷ [];
+  patterns = parts.patterns;
+  sites = parts.sites;
+}
 
 abbrev pub with_pattern : Tree → Parts → Parts
-with_pattern pattern parts =
-    record { functions = parts.functions; patterns = parts.patterns ++ pattern ∷ [] }
+with_pattern pattern parts = record {
+  functions = parts.functions;
+  patterns = parts.patterns ++ pattern ∷ [];
+  sites = parts.sites;
+}
+
+abbrev pub with_site : Site → Parts → Parts
+with_site one parts = record {
+  functions = parts.functions;
+  patterns = parts.patterns;
+  sites = parts.sites ++ one ∷ [];
+}
 
 abbrev mutual
   pub with_expr : Expr → Parts → Parts
@@ -35,12 +51,17 @@ abbrev mutual
       with_expr content (with_expr attributes (with_expr tag parts))
   with_kind (Function f) parts = with_parts_of f (with_function f parts)
   with_kind (Apply exprs) parts = with_exprs exprs parts
-  with_kind (Match e branches) parts = with_branches branches (with_expr e parts)
-  with_kind (Try body branches) parts = with_branches branches (with_expr body parts)
-  with_kind (Map e branches) parts = with_branches branches (with_expr e parts)
-  with_kind (Transform e branches) parts = with_branches branches (with_expr e parts)
+  with_kind (Match e branches) parts =
+      with_branches branches (with_expr e (with_site (site Closed branches) parts))
+  with_kind (Try body branches) parts =
+      with_branches branches (with_expr body (with_site (site Catching branches) parts))
+  with_kind (Map e branches) parts =
+      with_branches branches (with_expr e (with_site (site Closed branches) parts))
+  with_kind (Transform e branches) parts =
+      with_branches branches (with_expr e (with_site (site Filtering branches) parts))
   with_kind (Let pattern e rest) parts =
-      with_expr rest (with_expr e (with_pattern pattern parts))
+      with_expr rest (with_expr e (with_pattern pattern
+      (with_site (site Closed (ABranch pattern rest NoBranch)) parts)))
   with_kind (If condition then_one else_one) parts =
       with_expr else_one (with_expr then_one (with_expr condition parts))
   with_kind (Chain first tails) parts = with_tails tails (with_expr first parts)
@@ -80,7 +101,7 @@ abbrev mutual
 
   pub with_parts_of : FunctionTree → Parts → Parts
   with_parts_of (function at name name_at interface branches) parts =
-      with_branches branches parts
+      with_branches branches (with_site (site Closed branches) parts)
 
 abbrev pub with_functions : List FunctionTree → Parts → Parts
 with_functions [] parts = parts

@@ -2,20 +2,25 @@
 ghost use Rattle.std.specs.Prelude.{◌≡◌, OnOk};
 ghost use Rattle.cd_syntax.specs.PlainTree.{plain as plain_tree};
 ghost use Rattle.cd_program.specs.PlainExpr.{plain_function};
+ghost use Rattle.cd_resolved.specs.PlainSite.{plain_site};
 ghost use Rattle.cd_resolved.specs.Inner.Collecting.{nothing, with_function, with_pattern};
+ghost use Rattle.cd_resolved.specs.Inner.Collecting.{with_site};
 ghost use Rattle.cd_resolved.specs.Inner.PlainParts.{plain_parts};
 
+use crate::site_tree::SiteTree;
 use cd_program::expr::FunctionTree;
 use cd_syntax::type_tree::Tree;
 use std::alloc::{AllocError, Global};
 
-/// Functions and patterns of a program.
+/// Functions, patterns and sites of a program.
 #[derive(Drop)]
 pub struct Parts<'p> {
     /// The functions: those that are declared, and then those that stand in others.
     pub functions: Vec<&'p FunctionTree>,
     /// The patterns, in the order of the text.
     pub patterns: Vec<&'p Tree>,
+    /// The sites, a form before its parts.
+    pub sites: Vec<SiteTree<'p>>,
 }
 
 impl<'p> Parts<'p> {
@@ -26,6 +31,7 @@ impl<'p> Parts<'p> {
         Parts {
             functions: Vec::new(alloc),
             patterns: Vec::new(alloc),
+            sites: Vec::new(alloc),
         }
     }
 
@@ -44,6 +50,15 @@ impl<'p> Parts<'p> {
             ≡ with_pattern (plain_tree pattern.now) (plain_parts self.old)) }
     {
         self.patterns.push(pattern)?;
+        Ok(())
+    }
+
+    /// Adds a site.
+    pub(crate) fn add_site(&mut self, site: SiteTree<'p>) -> Result<(), AllocError>
+        ensures { OnOk result (plain_parts self.new
+            ≡ with_site (plain_site site.entry) (plain_parts self.old)) }
+    {
+        self.sites.push(site)?;
         Ok(())
     }
 }

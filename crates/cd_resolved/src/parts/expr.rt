@@ -8,10 +8,11 @@ use crate::parts::branches::{walk_let, walk_matching};
 use crate::parts::collected::Parts;
 use crate::parts::function::walk_inner;
 use crate::parts::lists::{walk_chain, walk_exprs, walk_fields, walk_items};
+use crate::site_tree::SiteTree;
 use cd_program::expr::{Expr, ExprKind};
 use std::alloc::AllocError;
 
-/// Adds the functions and the patterns that stand in an expression.
+/// Adds the functions, the patterns and the sites that stand in an expression.
 #[cycle(walk)]
 pub(crate) fn walk<'p>(expr: &'p Expr, parts: &mut Parts<'p>) -> Result<(), AllocError>
     ensures { OnOk result (plain_parts parts.new
@@ -34,10 +35,15 @@ fn walk_kind<'p>(kind: &'p ExprKind, parts: &mut Parts<'p>) -> Result<(), AllocE
             walk_three(first, second, third, parts)
         }
         ExprKind::Function(function) => walk_inner(function, parts),
-        ExprKind::Match(value, branches)
-        | ExprKind::Try(value, branches)
-        | ExprKind::Map(value, branches)
-        | ExprKind::Transform(value, branches) => walk_matching(value, branches, parts),
+        ExprKind::Match(value, branches) | ExprKind::Map(value, branches) => {
+            walk_matching(SiteTree::Branches(branches), value, branches, parts)
+        }
+        ExprKind::Try(value, branches) => {
+            walk_matching(SiteTree::Try(branches), value, branches, parts)
+        }
+        ExprKind::Transform(value, branches) => {
+            walk_matching(SiteTree::Transform(branches), value, branches, parts)
+        }
         ExprKind::Let(pattern, value, rest) => walk_let(pattern, value, rest, parts),
         ExprKind::Chain(first, tails) => walk_chain(first, tails, parts),
         ExprKind::Call(_, operand) => walk(operand, parts),

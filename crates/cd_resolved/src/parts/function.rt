@@ -6,10 +6,11 @@ ghost use Rattle.cd_resolved.specs.Inner.PlainParts.{plain_parts};
 
 use crate::parts::branches::walk_branches;
 use crate::parts::collected::Parts;
+use crate::site_tree::SiteTree;
 use cd_program::expr::FunctionTree;
 use std::alloc::AllocError;
 
-/// Adds a function that stands in an expression, and then what stands in it.
+/// Adds a function that stands in an expression, its site, and then what stands in it.
 #[cycle(walk)]
 pub(crate) fn walk_inner<'p>(
     function: &'p FunctionTree,
@@ -20,10 +21,11 @@ pub(crate) fn walk_inner<'p>(
         (with_function (plain_function function.now) (plain_parts parts.old))) }
 {
     parts.add_function(function)?;
+    parts.add_site(SiteTree::Branches(&function.branches))?;
     walk_branches(&function.branches, parts)
 }
 
-/// Adds what stands in a function.
+/// Adds the site of a function, and then what stands in it.
 pub(crate) fn walk_function<'p>(
     function: &'p FunctionTree,
     parts: &mut Parts<'p>,
@@ -31,5 +33,6 @@ pub(crate) fn walk_function<'p>(
     ensures { OnOk result (plain_parts parts.new
         ≡ with_parts_of (plain_function function.now) (plain_parts parts.old)) }
 {
+    parts.add_site(SiteTree::Branches(&function.branches))?;
     walk_branches(&function.branches, parts)
 }

@@ -1,11 +1,13 @@
 //! The functions of a program, by their places and names.
-ghost use Rattle.std.specs.Prelude.{◌≡◌, ◌∷◌, List, map, option_map, IfOk, OnOk};
+ghost use Rattle.std.specs.Prelude.{◌≡◌, ◌∷◌, List, Some, map, option_map, IfOk, OnOk};
 ghost use Rattle.std.specs.Str.{chars};
 ghost use Rattle.cd_program.specs.Expr.{FunctionTree as AFunction};
 ghost use Rattle.cd_program.specs.PlainExpr.{plain_function};
 ghost use Rattle.cd_program.specs.PlainProgram.{plain_program};
 ghost use Rattle.cd_evaluation.specs.ProgramFunctions.{all_functions, function_at, declared_at};
-ghost use Rattle.cd_resolved.specs.Inner.ByPlace.{AreByPlace, AreByName, Enters};
+ghost use Rattle.std.specs.List.{slice_get};
+ghost use Rattle.cd_resolved.specs.Inner.ByPlace.{AreByPlace, HaveNumbers, IsNumberOf};
+ghost use Rattle.cd_resolved.specs.Inner.ByPlace.{AreByName, Enters};
 ghost use Rattle.cd_resolved.specs.Inner.PlainParts.{functions_of};
 
 use crate::parts::key::Key;
@@ -17,11 +19,18 @@ use indexmap::IndexMap;
 use std::alloc::{AllocError, Global};
 use std::marker::Model;
 
+/// A function, and its number among all of a program.
+#[derive(Clone, Copy)]
+pub(crate) struct Numbered<'p> {
+    pub(crate) function: &'p FunctionTree,
+    pub(crate) number: usize,
+}
+
 /// The functions of a program, by their places and names. A contract sees the program.
 #[derive(Drop)]
 pub struct Functions<'p> {
     program: &'p Program,
-    by_place: Slots<&'p FunctionTree>,
+    by_place: Slots<Numbered<'p>>,
     by_name: IndexMap<Key<'p>, usize>,
 }
 
@@ -35,12 +44,13 @@ impl<'p> Model for Functions<'p> {
 
     ghost use Rattle.cd_program.specs.PlainProgram.{plain_program};
     ghost use Rattle.cd_evaluation.specs.ProgramFunctions.{all_functions};
-    ghost use Rattle.cd_resolved.specs.Inner.ByPlace.{AreByPlace, AreByName};
+    ghost use Rattle.cd_resolved.specs.Inner.ByPlace.{AreByPlace, HaveNumbers, AreByName};
 
     ghost view = { λ functions. functions.program.now };
 
     ghost invariant = { λ functions.
         AreByPlace (all_functions (plain_program functions.program.now)) functions.by_place
+        × HaveNumbers (all_functions (plain_program functions.program.now)) functions.by_place
         × AreByName (plain_program functions.program.now).functions functions.by_name };
 }
 
@@ -79,7 +89,21 @@ impl<'p> Functions<'p> {
         ensures { option_map (λ f. plain_function f.now) result
             ≡ function_at (plain_program self.now) at }
     {
-        self.by_place.get(at)
+        match self.by_place.get(at) {
+            Some(one) => Some(one.function),
+            None => None,
+        }
+    }
+
+    /// The number of the function that begins at a place, among all functions of the program.
+    pub(crate) fn number(&self, at: usize) -> Option<usize>
+        ensures { (f : AFunction) → function_at (plain_program self.now) at ≡ Some f
+            → IsNumberOf (all_functions (plain_program self.now)) f result }
+    {
+        match self.by_place.get(at) {
+            Some(one) => Some(one.number),
+            None => None,
+        }
     }
 
     /// The place of the function that is declared by a name.
@@ -90,31 +114,33 @@ impl<'p> Functions<'p> {
     }
 }
 
-// Functions by their places.
-fn by_place<'p>(
-    alloc: Global,
-    all: &[&'p FunctionTree],
-) -> Result<Slots<&'p FunctionTree>, AllocError>
-    ensures { IfOk result (λ slots. AreByPlace (functions_of all.now) slots) }
+// Functions by their places, with their numbers.
+fn by_place<'p>(alloc: Global, all: &[&'p FunctionTree]) -> Result<Slots<Numbered<'p>>, AllocError>
+    ensures places { IfOk result (λ slots. AreByPlace (functions_of all.now) slots) }
+    ensures numbers { IfOk result (λ slots. HaveNumbers (functions_of all.now) slots) }
 {
     let mut slots = Slots::new(alloc);
     let mut index = all.len();
     while index > 0 {
         index -= 1;
-        put(&mut slots, all[index])?;
+        put(&mut slots, all[index], index)?;
     }
     Ok(slots)
 }
 
-// Puts a function before others.
+// Puts a function, which has this number, before others.
 fn put<'p>(
-    slots: &mut Slots<&'p FunctionTree>,
+    slots: &mut Slots<Numbered<'p>>,
     function: &'p FunctionTree,
+    number: usize,
 ) -> Result<(), AllocError>
-    ensures { OnOk result ((rest : List AFunction) → AreByPlace rest slots.old
+    ensures place { OnOk result ((rest : List AFunction) → AreByPlace rest slots.old
         → AreByPlace (plain_function function.now ∷ rest) slots.new) }
+    ensures number { (all : List AFunction)
+        → slice_get all number ≡ Some (plain_function function.now)
+        → HaveNumbers all slots.old → HaveNumbers all slots.new }
 {
-    slots.put(function.at, function)
+    slots.put(function.at, Numbered { function, number })
 }
 
 // The places of functions by their names.

@@ -1,4 +1,4 @@
-//! The functions and the patterns of a program.
+//! The functions, the patterns and the sites of a program.
 ghost use Rattle.std.specs.Prelude.{◌≡◌, map, IfOk, OnOk};
 ghost use Rattle.cd_program.specs.PlainExpr.{plain_function};
 ghost use Rattle.cd_program.specs.PlainProgram.{plain_program};
@@ -6,7 +6,9 @@ ghost use Rattle.cd_evaluation.specs.ProgramFunctions.{all_functions};
 ghost use Rattle.cd_resolved.specs.Inner.Collecting.{with_functions, with_parts_of_all};
 ghost use Rattle.cd_resolved.specs.Inner.Collecting.{parts_of};
 ghost use Rattle.cd_resolved.specs.Inner.PlainParts.{plain_parts, functions_of, trees_of};
+ghost use Rattle.cd_resolved.specs.Inner.PlainParts.{sites_of};
 ghost use Rattle.cd_placed.specs.Patterns.{all_patterns};
+ghost use Rattle.cd_typing.specs.Sites.{all_sites};
 
 use crate::parts::collected::Parts;
 use crate::parts::function::walk_function;
@@ -14,7 +16,7 @@ use cd_program::expr::FunctionTree;
 use cd_program::program::Program;
 use std::alloc::{AllocError, Global};
 
-/// All functions of a program, those that are declared first, and all its patterns.
+/// All functions of a program, those that are declared first, all its patterns, and all its sites.
 ///
 /// # Errors
 ///
@@ -24,6 +26,8 @@ pub fn parts_of<'p>(alloc: Global, program: &'p Program) -> Result<Parts<'p>, Al
         functions_of parts.functions.items ≡ all_functions (plain_program program.now)) }
     ensures patterns { IfOk result (λ parts.
         trees_of parts.patterns.items ≡ all_patterns (plain_program program.now)) }
+    ensures sites { IfOk result (λ parts.
+        sites_of parts.sites.items ≡ all_sites (plain_program program.now)) }
 {
     collect(alloc, program)
 }

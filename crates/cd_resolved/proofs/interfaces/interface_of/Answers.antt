@@ -4,9 +4,9 @@ use Rattle.cd_graph.specs.Nodes.{nodes}
 use Rattle.cd_program.specs.PlainExpr.{plain_function}
 use Rattle.cd_resolve.specs.Named.{declared_by}
 use Rattle.cd_evaluation.specs.ProgramInterfaces.{interface_of}
-use Rattle.cd_resolved.specs.Interfaces.{AreNodes, IsMeet}
+use Rattle.cd_meet.specs.Meets.{AreNodes, IsMeet}
 use Rattle.cd_resolved.proofs.GraphsGrow.{arrows_grown}
-use Rattle.cd_resolved.proofs.MeetsPut.{written_are_nodes}
+use Rattle.cd_resolved.proofs.InterfacesSound.{written_are_nodes}
 use Rattle.cd_resolved.proofs.interfaces.interface_of.Goals as goal
 
 pub put_meet-requires : goal.put_meet-requires

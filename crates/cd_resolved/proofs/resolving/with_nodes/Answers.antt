@@ -62,7 +62,7 @@ returns-clause-resolved c =
       functions = functions;
       interfaces = subst (λ (types : Declarations). AllOf (HasNodes (types ∷ []) (nodes c.interfaces_of.new.graph))
           c.in_ok-interfaces.interfaces.items) c.requires.declared c.in_ok-interfaces.ensures.interfaces;
-      places = c.requires.found.places;
+      sites = c.requires.sites;
       asked_sound = c.in_ok-kernels.ensures.sound;
       graph_sound = c.in_ok-interfaces.ensures.sound;
       grown = (

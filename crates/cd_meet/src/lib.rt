@@ -1,17 +1,25 @@
-//! A node of the functions in all arrows of an interface.
+//! Nodes of the functions in all of some arrows.
+#![tactic(auto)]
+
 ghost use Rattle.std.specs.Prelude.{◌≡◌, ◌++◌, IfOk};
 ghost use Rattle.cd_model.specs.Formula.{And, formulas_of, Graph as PlainGraph, IsGraph};
 ghost use Rattle.cd_graph.specs.Nodes.{nodes};
 ghost use Rattle.cd_graph.specs.PlainFormula.{plain};
-ghost use Rattle.cd_resolved.specs.Interfaces.{AreNodes, IsMeet, arrow_formulas};
+ghost use Rattle.cd_meet.specs.Meets.{AreNodes, IsMeet, arrow_formulas};
 
 use cd_graph::built_in::{ANY, EMPTY};
 use cd_graph::{Formula, Formulas, Graph};
 use cd_sets::node_id::NodeId;
 use std::alloc::{AllocError, Global};
 
-/// A node of what is in all of these arrows, which is put into the graph.
-pub(crate) fn put_meet(
+/// A node of the functions in all of these arrows, which are between nodes of a graph: its formula
+/// is the meet of all functions and of the arrows. It is put after the nodes of the graph, which
+/// stays sound.
+///
+/// # Errors
+///
+/// Want of memory.
+pub fn put_meet(
     alloc: Global,
     graph: &mut Graph,
     arrows: &[(NodeId, NodeId)],

@@ -1,7 +1,7 @@
 use Rattle.std.proofs.Common.{◌≡◌, ◌++◌, map, drop}
 use Rattle.cd_graph.specs.PlainFormula.{plain}
-use Rattle.cd_resolved.specs.Interfaces.{arrow_formula, arrow_formulas}
-use Rattle.cd_resolved.proofs.whole.meet.Given as goal
+use Rattle.cd_meet.specs.Meets.{arrow_formula, arrow_formulas}
+use Rattle.cd_meet.proofs.meet.Given as goal
 
 -- the formulas so far, and those of the arrows that are left, are all
 abbrev pub invariant-loop-argument : goal.invariant-loop-argument

@@ -1,8 +1,8 @@
 use Rattle.std.proofs.Common.{map, ap, ◌∙◌}
 use Rattle.cd_graph.specs.Nodes.{nodes}
 use Rattle.cd_graph.specs.PlainFormula.{plain, plain_list}
-use Rattle.cd_resolved.proofs.MeetsPut.{one_is_sound}
-use Rattle.cd_resolved.proofs.whole.put_meet.Goals as goal
+use Rattle.cd_meet.proofs.MeetsPut.{one_is_sound}
+use Rattle.cd_meet.proofs.put_meet.Goals as goal
 
 pub extend-requires : goal.extend-requires
 extend-requires c = one_is_sound (nodes c.args.graph.now) c.args.arrows.now (plain c.in_ok-formula.formula) (plain_list c.in_ok-of.field-0)
