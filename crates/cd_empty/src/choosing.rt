@@ -57,6 +57,9 @@ impl Decider {
             return Ok(place);
         }
         let places = self.held(graph, branch, ids)?;
+        if places.len() <= 1 {
+            return Ok(place);
+        }
         self.most_closed(sides.as_slice(), branch, places.as_slice(), place)
     }
 

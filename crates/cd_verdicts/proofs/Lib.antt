@@ -4,3 +4,4 @@ pub mod QuestionsDiffer
 pub mod SettledLists
 pub mod QuestionsSeen
 pub mod WitnessesOfVerdicts
+pub mod WordsHashed

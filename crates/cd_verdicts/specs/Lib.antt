@@ -1,3 +1,4 @@
 pub mod Verdicts
 pub mod Witnesses
 pub mod Looking
+pub mod Hashing

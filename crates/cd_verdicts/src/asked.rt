@@ -2,9 +2,11 @@ ghost use Rattle.std.specs.Prelude.{◌≡◌, ◌∷◌, ◌++◌, ◌⊎◌, �
 ghost use Rattle.std.specs.Prelude.{slice_get, option_copied, IfOk, OnErr, MatchOption};
 ghost use Rattle.cd_sets.specs.declared.question.Question.{Question as AQuestion};
 
+use crate::hasher::WordHasher;
 use cd_sets::question::Question;
 use indexmap::IndexSet;
 use std::alloc::{AllocError, Global};
+use std::hash::BuildHasherDefault;
 use std::marker::Model;
 
 /// The number of a question.
@@ -14,7 +16,7 @@ pub struct QuestionId(pub usize);
 /// Questions, each once, under the numbers of their places. A contract sees them in a list.
 #[derive(Drop)]
 pub struct Asked {
-    questions: IndexSet<Question>,
+    questions: IndexSet<Question, BuildHasherDefault<WordHasher>>,
 }
 
 impl Model for Asked {
@@ -32,7 +34,7 @@ impl Asked {
         ensures { result ≡ [] }
     {
         Asked {
-            questions: IndexSet::new(alloc),
+            questions: IndexSet::with_hasher(alloc, BuildHasherDefault::new()),
         }
     }
 

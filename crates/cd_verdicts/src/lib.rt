@@ -2,6 +2,7 @@
 #![tactic(auto)]
 
 pub mod asked;
+pub mod hasher;
 pub mod look;
 pub mod verdict;
 pub mod verdicts;

@@ -9,18 +9,20 @@ ghost use Rattle.cd_verdicts.specs.declared.verdict.Verdict.TheVariants.{Empty, 
 ghost use Rattle.cd_verdicts.specs.Verdicts.{IsKept, family, without_elements};
 
 use crate::asked::{Asked, QuestionId};
+use crate::hasher::WordHasher;
 use crate::verdict::Verdict;
 use cd_elements::ElementId;
 use cd_sets::question::Question;
 use indexmap::IndexMap;
 use std::alloc::{AllocError, Global};
+use std::hash::BuildHasherDefault;
 use std::marker::Model;
 
 /// Verdicts on questions, one for each, and the questions among these that have no element, once
 /// more in a list of their own. A contract sees the verdicts in a list.
 #[derive(Drop)]
 pub struct Verdicts {
-    verdicts: IndexMap<Question, Verdict>,
+    verdicts: IndexMap<Question, Verdict, BuildHasherDefault<WordHasher>>,
     family: Vec<Question>,
 }
 
@@ -43,7 +45,7 @@ impl Verdicts {
         ensures { result ≡ [] }
     {
         Verdicts {
-            verdicts: IndexMap::new(alloc),
+            verdicts: IndexMap::with_hasher(alloc, BuildHasherDefault::new()),
             family: Vec::new(alloc),
         }
     }
