@@ -25,3 +25,4 @@ pub mod BasicForms
 pub mod SetsHold
 pub mod SetsMade
 pub mod SameNodes
+pub mod Covering

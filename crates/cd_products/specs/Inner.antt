@@ -6,3 +6,4 @@ pub mod After
 pub mod Apart
 pub mod Basic
 pub mod Sets
+pub mod Covering

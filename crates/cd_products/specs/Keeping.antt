@@ -26,3 +26,10 @@ module _ (graph : Graph) where
         → AreInterfacesOf (graph ++ more) interfaces → IsValue v
         → value_answers (graph ++ more) interfaces v one true
         ↔ value_answers (graph ++ more) interfaces v other true
+
+-- each value of the one node is in the other, in each longer graph under its interfaces
+abbrev pub AreValuesWithin : Graph → (one other : NodeId) → Type 0
+AreValuesWithin graph one other = (more : Graph) (interfaces : Interfaces) (v : Thing)
+    → IsGraph (graph ++ more) → AreInterfacesOf (graph ++ more) interfaces → IsValue v
+    → value_answers (graph ++ more) interfaces v one true
+    → value_answers (graph ++ more) interfaces v other true

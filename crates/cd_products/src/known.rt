@@ -1,13 +1,14 @@
 //! Nodes that are there already.
-ghost use Rattle.std.specs.Prelude.{◌≡◌, ◌<◌, ◌∷◌, [], length, IsTrue};
+ghost use Rattle.std.specs.Prelude.{◌≡◌, ◌<◌, length, IsTrue};
 ghost use Rattle.cd_sets.specs.declared.node_id.NodeId.{NodeId as AnId};
 ghost use Rattle.cd_model.specs.AllOf.{AllOf};
-ghost use Rattle.cd_rules.specs.Needs.{question};
+ghost use Rattle.cd_model.specs.Formula.{IsWithin};
 ghost use Rattle.cd_empty.specs.Growth.{Grows};
 ghost use Rattle.cd_empty.specs.Seen.{graph_of};
-ghost use Rattle.cd_verdicts.specs.Verdicts.{HasNoElement, HasNoValue};
-ghost use Rattle.cd_products.specs.Keeping.{HoldSame};
+ghost use Rattle.cd_products.specs.Keeping.{AreValuesWithin, HoldSame};
 
+use crate::covered::is_seen_within;
+use crate::likely::are_likely_same;
 use cd_empty::World;
 use cd_sets::node_id::NodeId;
 use cd_verdicts::Verdict;
@@ -39,7 +40,9 @@ fn is_same(world: &mut World, one: NodeId, other: NodeId) -> bool
     ensures grows { Grows world.old world.new }
 {
     // The contract of this call says that the graph begins with the built-in nodes.
-    world.graph();
+    if !are_likely_same(world.graph(), one, other) {
+        return false;
+    }
     is_within(world, one, other) && is_within(world, other, one)
 }
 
@@ -47,13 +50,14 @@ fn is_same(world: &mut World, one: NodeId, other: NodeId) -> bool
 fn is_within(world: &mut World, one: NodeId, other: NodeId) -> bool
     requires one { one.0 < length (graph_of world.old) }
     requires other { other.0 < length (graph_of world.old) }
-    ensures elements { IsTrue result
-        → HasNoElement (graph_of world.old) (question (one ∷ []) (other ∷ [])) }
-    ensures values { IsTrue result
-        → HasNoValue (graph_of world.old) (question (one ∷ []) (other ∷ [])) }
+    ensures elements { IsTrue result → IsWithin (graph_of world.old) one other }
+    ensures values { IsTrue result → AreValuesWithin (graph_of world.old) one other }
     ensures graph { graph_of world.new ≡ graph_of world.old }
     ensures grows { Grows world.old world.new }
 {
+    if is_seen_within(world.graph(), one, other) {
+        return true;
+    }
     match world.subtype(one, other) {
         Ok(Verdict::Empty) => true,
         Ok(Verdict::Inhabited(_)) | Err(_) => false,
