@@ -28,7 +28,7 @@ use Rattle.cd_apply.specs.Inner.Applied.{IsApplied}
 use Rattle.cd_apply.specs.Inner.FunctionClauses.{FunctionClause, AreClausesOf, MayFailAt}
 use Rattle.cd_apply.specs.Inner.ImageUnions.{IsImageUnion, NamesArgument}
 use Rattle.cd_apply.specs.Inner.Images.{IsImage}
-use Rattle.cd_apply.specs.Inner.Unions.{HoldsUnion}
+use Rattle.cd_builders.specs.Unions.{HoldsUnion}
 use Rattle.cd_apply.specs.Inner.Results.{IsInOne}
 use Rattle.cd_apply.proofs.FunctionsOfClauses.{is_function}
 use Rattle.cd_apply.proofs.ImagesByClauses.{given_exactly, outside_exactly, all_map_into}

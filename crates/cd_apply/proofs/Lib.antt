@@ -10,6 +10,4 @@ pub mod RefusedArrows
 pub mod ImagesGathered
 pub mod ApplicationsAnswered
 pub mod SubsumedQuestions
-pub mod NodesAskedFor
-pub mod UnionsHold
 pub mod QuestionsNarrowed

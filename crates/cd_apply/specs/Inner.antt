@@ -6,6 +6,5 @@ pub mod Found
 pub mod PlainDivided
 pub mod ImageUnions
 pub mod Images
-pub mod Unions
 pub mod Subsuming
 pub mod Applied

@@ -11,7 +11,7 @@ ghost use Rattle.cd_apply.specs.Inner.Applied.{IsApplied};
 
 use crate::clauses::function_clauses;
 use crate::image::{Image, image_of};
-use crate::union::node_of;
+use cd_builders::union;
 use cd_elements::ElementId;
 use cd_empty::World;
 use cd_graph::built_in::ARROW;
@@ -85,7 +85,7 @@ fn apply_functions(
     match image_of(alloc, world, clauses.as_slice(), argument)? {
         Image::Fails(element) => Ok(Applied::OutsideDomain(element)),
         Image::Union(questions) => {
-            let id = node_of(alloc, world, questions.as_slice())?;
+            let id = union(alloc, world, questions.as_slice())?;
             Ok(Applied::Results(id))
         }
     }

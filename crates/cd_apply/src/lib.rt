@@ -8,7 +8,6 @@ mod found;
 mod image;
 mod refusing;
 mod subsumed;
-mod union;
 mod unsettled;
 mod walk;
 

@@ -5,7 +5,6 @@ ghost use Rattle.cd_explored.specs.Inner.Made.{IsCapture, IsMade, AreFormulas};
 ghost use Rattle.cd_explored.specs.Inner.Plan.{plain_plan, IsSoundPlan};
 ghost use Rattle.cd_explored.specs.Inner.Wanted.{GrowTo};
 
-use crate::constants::character;
 use crate::first_wants::first_wants;
 use crate::givers::givers;
 use crate::plan::Plan;
@@ -14,6 +13,7 @@ use crate::texts::text;
 use crate::union::{comes, union_of};
 use crate::want::Want;
 use crate::wants::Wants;
+use cd_builders::character;
 use cd_graph::Formula;
 use std::alloc::AllocError;
 

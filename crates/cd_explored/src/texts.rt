@@ -5,11 +5,11 @@ ghost use Rattle.cd_explored.specs.Inner.Made.{IsText, text_at};
 ghost use Rattle.cd_explored.specs.Inner.Plan.{plain_plan};
 ghost use Rattle.cd_explored.specs.Inner.Wanted.{GrowTo};
 
-use crate::constants::nil;
 use crate::nodes::pair;
 use crate::plan::Plan;
 use crate::want::Want;
 use crate::wants::Wants;
+use cd_builders::nil;
 use cd_graph::Formula;
 use std::alloc::AllocError;
 

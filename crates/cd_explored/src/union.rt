@@ -9,7 +9,6 @@ ghost use Rattle.cd_explored.specs.Inner.Made.{IsUnion};
 ghost use Rattle.cd_explored.specs.Inner.Plan.{plain_plan, IsSoundPlan, IsSoundStep};
 ghost use Rattle.cd_explored.specs.Inner.Wanted.{GrowTo};
 
-use crate::constants::{atom, character, integer, nil};
 use crate::givers::Giver;
 use crate::nodes::pair;
 use crate::plan::Plan;
@@ -17,6 +16,7 @@ use crate::step::Step;
 use crate::texts::text_of;
 use crate::want::Want;
 use crate::wants::Wants;
+use cd_builders::{atom, character, integer, nil};
 use cd_graph::{Formula, Formulas};
 use cd_products::question_formula;
 use cd_syntax::constant::Constant;

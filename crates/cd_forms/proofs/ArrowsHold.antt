@@ -1,12 +1,12 @@
 -- The meet of arrows between nodes holds the functions that are in all of them.
-use Rattle.std.proofs.Common.{◌≡◌, ◌⊎◌, ◌<◌, true, false, List, [], ◌∷◌, length}
-use Rattle.std.proofs.Common.{inl, inr, refl, sym, subst, arith}
+use Rattle.std.proofs.Common.{◌⊎◌, true, false, List, [], ◌∷◌}
+use Rattle.std.proofs.Common.{inl, inr, refl, sym, subst}
 use Rattle.cd_sets.specs.declared.node_id.NodeId.{NodeId}
 use Rattle.cd_model.specs.AllOf.{AllOf}
-use Rattle.cd_model.specs.Formula.{Graph, Formula, And, IsFormula, nodes}
+use Rattle.cd_model.specs.Formula.{Graph, Formula, And, nodes}
 use Rattle.cd_model.specs.Formula.{formulas_of}
 use Rattle.cd_model.specs.Membership.{holds, each_holds, reader, answers, mapping}
-use Rattle.cd_model.specs.Thing.{Thing, Function, Pairs, NoPair, Maps, Fails, IsElement}
+use Rattle.cd_model.specs.Thing.{Thing, Function, Pairs, NoPair, Maps, Fails}
 use Rattle.cd_model.proofs.Apart.{element_apart}
 use Rattle.cd_model.proofs.ApartAtNodes.{nodes_keep}
 use Rattle.cd_model.proofs.Decided.{element_decides}
@@ -17,9 +17,6 @@ use Rattle.cd_typing.specs.Typ as types
 use Rattle.cd_forms.specs.Arrows.{arrows_of}
 use Rattle.cd_forms.specs.Inner.ArrowFormulas.{arrow_formulas}
 use Rattle.cd_model.proofs.ReadHeads.{of_arrow}
-
-abbrev pub AreNodes : Graph → List (NodeId × NodeId) → Type 0
-AreNodes graph = AllOf (λ arrow. (arrow.0.0 < length graph) × (arrow.1.0 < length graph))
 
 module _ (graph : Graph) where
   abbrev In : NodeId → Thing → Type 0
@@ -99,11 +96,6 @@ module _ (graph : Graph) where
   abbrev Meet : List (NodeId × NodeId) → Formula
   Meet arrows = And (formulas_of (arrow_formulas arrows))
 
-  pub interface_sound : (arrows : List (NodeId × NodeId)) → AreNodes graph arrows
-      → IsFormula (length graph) (Meet arrows)
-  interface_sound [] below = tt
-  interface_sound (arrow ∷ arrows) below = (below.0, interface_sound arrows below.1)
-
   abbrev AllInto : Pairs → List (NodeId × NodeId) → Type 0
   AllInto pairs arrows = AllOf (λ arrow. MapsInto pairs (types.In arrow.argument)
       (types.In arrow.result)) (arrows_of graph arrows)
@@ -139,25 +131,3 @@ module _ (graph : Graph) where
             (subst (λ (d : Thing). holds (reader graph d) (Meet (arrow ∷ arrows)) true) found.1
             each),
       )
-
-  pub interface_is : (arrows : List (NodeId × NodeId)) → 0 < length arrows → (e : Thing)
-      → holds (reader graph e) (Meet arrows) true → AllArrows (arrows_of graph arrows) e
-  interface_is [] some e each = absurd (omega (arith, some))
-  interface_is (arrow ∷ arrows) some e each = interface_only arrow arrows e each
-
-  -- where there is none, all functions
-  module _ (functions : NodeId) where
-    pub none_has : ((pairs : Pairs) → answers graph (Function pairs) functions true)
-        → (arrows : List (NodeId × NodeId)) → (e : Thing) → IsElement e
-        → AllArrows (arrows_of graph arrows) e → answers graph e functions true
-    none_has all arrows e element (pairs, same, each) =
-        subst (λ (d : Thing). answers graph d functions true) (sym same) (all pairs)
-
-    pub none_only : ((e : Thing) → answers graph e functions true
-        → (pairs : Pairs) × (e ≡ Function pairs))
-        → (arrows : List (NodeId × NodeId)) → arrows ≡ [] → (e : Thing) → IsElement e
-        → answers graph e functions true → AllArrows (arrows_of graph arrows) e
-    none_only only arrows none e element there =
-        let found = only e there in
-        subst (λ (all : List (NodeId × NodeId)). AllArrows (arrows_of graph all) e) (sym none)
-        (found.0, found.1, tt)

@@ -10,7 +10,6 @@ pub mod SequencesHold
 pub mod SortedCode
 pub mod LettersNumbered
 pub mod MembersOfUnions
-pub mod OneMoreNode
 pub mod PutHolds
 pub mod ConstantsHold
 pub mod ItemsPut
@@ -27,7 +26,6 @@ mod StateFormulasMade
 mod ItemsGathered
 mod VerdictsRead
 mod NilAsked
-mod UnionNodes
 mod JoinsKnown
 mod ListTypes
 mod Outcomes

@@ -1,6 +1,5 @@
 -- What the node of a call that ended well holds, from what its contract says.
-use Rattle.std.proofs.Common.{◌≡◌, ◌<◌, ◌↔◌, true, List, [], ◌∷◌, Result, Ok, Err, length, refl}
-use Rattle.std.proofs.Common.{sym, subst, arith, ◌≤◌, get_or}
+use Rattle.std.proofs.Common.{◌≡◌, ◌↔◌, true, Result, Ok, Err, sym, subst}
 use Rattle.std.specs.Result.{IfOk}
 use Rattle.std.specs.declared.alloc.AllocError.{AllocError}
 use Rattle.cd_sets.specs.declared.node_id.NodeId.{NodeId}
@@ -8,11 +7,6 @@ use Rattle.cd_model.specs.Formula.{Graph, Formula}
 use Rattle.cd_model.specs.Membership.{holds, reader, answers}
 use Rattle.cd_model.specs.Thing.{Thing, IsElement}
 use Rattle.cd_meaning.specs.Sets.{Set, ◌⊆◌, elements_of}
-
--- a list of nothing
-pub no_items : {X : Type 0} (xs : List X) → length xs < 1 → xs ≡ []
-no_items [] below = refl
-no_items (x ∷ xs) below = absurd (omega (arith, below))
 
 -- a node that holds what a formula held
 module _ (graph longer : Graph) (f g : Formula) (same : f ≡ g) (result : Result NodeId AllocError)
@@ -57,9 +51,3 @@ pub wider : (longer : Graph) (one other : Set) (result : Result NodeId AllocErro
 wider longer one other (Ok id) only within =
     λ e element there. within e element (only e element there)
 wider longer one other (Err error) only within = tt
-
-pub alone : {X : Type 0} (xs : List X) (x : X) → 1 ≤ length xs → length xs < 2
-    → xs ≡ get_or xs 0 x ∷ []
-alone [] x some few = absurd (omega (arith, some))
-alone (y ∷ []) x some few = refl
-alone (y ∷ z ∷ xs) x some few = absurd (omega (arith, few))

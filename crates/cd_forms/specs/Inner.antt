@@ -11,6 +11,5 @@ pub mod States
 pub mod ItemQuestions
 pub mod Ending
 pub mod StateFormulas
-pub mod Unions
 pub mod ListFormulas
 pub mod Joins

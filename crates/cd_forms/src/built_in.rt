@@ -2,12 +2,12 @@
 ghost use Rattle.std.specs.Prelude.{◌≡◌, ◌<◌, ◌↔◌, true, length};
 ghost use Rattle.cd_model.specs.Formula.{IsGraph};
 ghost use Rattle.cd_model.specs.Membership.{answers};
-ghost use Rattle.cd_model.specs.Thing.{Thing, Pairs, Function};
+ghost use Rattle.cd_model.specs.Thing.{Thing};
 ghost use Rattle.cd_matching.specs.Sequences.{nil};
 ghost use Rattle.cd_empty.specs.Seen.{graph_of};
 
 use cd_empty::World;
-use cd_graph::built_in::{ARROW, EMPTY, NIL};
+use cd_graph::built_in::{EMPTY, NIL};
 use cd_sets::node_id::NodeId;
 
 /// The node that holds nothing.
@@ -30,18 +30,4 @@ pub(crate) fn nil(world: &World) -> NodeId
     // The contract of this call says that the graph begins with the built-in nodes.
     world.graph();
     NIL
-}
-
-/// The node of all functions.
-pub(crate) fn arrow(world: &World) -> NodeId
-    ensures holds { (pairs : Pairs)
-        → answers (graph_of world.now) (Function pairs) result true }
-    ensures only { (e : Thing) → answers (graph_of world.now) e result true
-        → (pairs : Pairs) × (e ≡ Function pairs) }
-    ensures node { result.0 < length (graph_of world.now) }
-    ensures sound { IsGraph (graph_of world.now) }
-{
-    // The contract of this call says that the graph begins with the built-in nodes.
-    world.graph();
-    ARROW
 }

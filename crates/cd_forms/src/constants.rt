@@ -7,9 +7,8 @@ ghost use Rattle.cd_empty.specs.Growth.{Grows};
 ghost use Rattle.cd_empty.specs.Seen.{graph_of};
 
 use crate::built_in::nil;
-use crate::leaves::{atom, character, integer};
-use crate::put::put;
 use crate::texts::text_before;
+use cd_builders::{atom, character, integer, put};
 use cd_empty::World;
 use cd_sets::node_id::NodeId;
 use cd_syntax::constant::Constant;

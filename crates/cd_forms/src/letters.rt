@@ -5,8 +5,8 @@ ghost use Rattle.cd_graph.specs.PlainFormula.{plain};
 ghost use Rattle.cd_model.specs.Leaves.{one_character};
 ghost use Rattle.cd_forms.specs.Inner.Letters.{AreLetters};
 
-use crate::leaves::character;
 use crate::nodes::node_after;
+use cd_builders::character;
 use cd_graph::Formula;
 use cd_sets::node_id::NodeId;
 use indexmap::IndexSet;

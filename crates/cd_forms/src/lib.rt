@@ -3,14 +3,11 @@
 
 mod built_in;
 mod constants;
-mod interfaces;
-mod leaves;
 mod letters;
 mod members;
 mod nodes;
 mod of_sequences;
 mod pairs;
-mod put;
 mod put_items;
 mod records;
 mod rows;
@@ -22,7 +19,6 @@ mod unions;
 mod xmls;
 
 pub use constants::constant;
-pub use interfaces::interface;
 pub use of_sequences::{items, joined, list_of};
 pub use records::record;
 pub use sequences::sequence;

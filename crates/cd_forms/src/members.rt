@@ -1,18 +1,15 @@
 //! The members of a union.
-ghost use Rattle.std.specs.Prelude.{◌≡◌, ◌<◌, ◌||◌, ◌++◌, ◌∷◌, [], map, length, IfOk, OnOk};
+ghost use Rattle.std.specs.Prelude.{◌≡◌, ◌||◌, map, IfOk, OnOk};
 ghost use Rattle.cd_sets.specs.IdSet.{holds};
 ghost use Rattle.cd_sets.specs.declared.node_id.NodeId.{NodeId as AnId};
-ghost use Rattle.cd_model.specs.AllOf.{AllOf};
-ghost use Rattle.cd_model.specs.BuiltIns as builtin;
-ghost use Rattle.cd_model.specs.Formula.{Or, formula_at, formulas_of};
-ghost use Rattle.cd_graph.specs.Nodes.{nodes};
-ghost use Rattle.cd_graph.specs.PlainFormula.{plain};
+ghost use Rattle.cd_forms.specs.Inner.Asking.{asking};
 ghost use Rattle.cd_forms.specs.Inner.Members.{is_same, is_member};
 
-use cd_graph::built_in::{ANY, BOOL, EMPTY, INT};
-use cd_graph::{Formula, Formulas, Graph};
+use crate::of_sequences::asking::asking;
+use cd_graph::built_in::EMPTY;
 use cd_sets::id_set::IdSet;
 use cd_sets::node_id::NodeId;
+use cd_sets::question::Question;
 use std::alloc::{AllocError, Global};
 
 /// The nodes of a union without the empty one, each once.
@@ -37,30 +34,13 @@ fn add(members: &mut IdSet, part: NodeId) -> Result<(), AllocError>
     members.insert(part)
 }
 
-/// The union of copies of the formulas of nodes.
-pub(crate) fn union_formula(
-    alloc: Global,
-    graph: &Graph,
-    members: &[NodeId],
-) -> Result<Formula, AllocError>
-    requires { AllOf (λ id. id.0 < length (nodes graph.now)) members.now }
-    ensures { IfOk result (λ is. plain is
-        ≡ Or (formulas_of (map (formula_at (nodes graph.now)) members.now))) }
+/// The questions that ask for one of the nodes each.
+pub(crate) fn questions_of(alloc: Global, members: &[NodeId]) -> Result<Vec<Question>, AllocError>
+    ensures { IfOk result (λ all. all.items ≡ map asking members.now) }
 {
-    let mut formulas = Vec::new(alloc);
+    let mut questions = Vec::with_capacity(alloc, members.len())?;
     for member in members {
-        formulas.push(graph.formula(*member).copy()?)?;
+        questions.push(asking(alloc, *member)?)?;
     }
-    Ok(Formula::or(Formulas::of(formulas)?))
-}
-
-/// The nodes that a union may turn out to be: its members, and some that are built in.
-pub(crate) fn likely(alloc: Global, members: &[NodeId]) -> Result<Vec<NodeId>, AllocError>
-    ensures { IfOk result (λ all. all.items
-        ≡ members.now ++ builtin.BOOL ∷ builtin.INT ∷ builtin.ANY ∷ []) }
-{
-    let mut all = Vec::new(alloc);
-    all.extend_from_slice(members)?;
-    all.extend_from_slice(&[BOOL, INT, ANY])?;
-    Ok(all)
+    Ok(questions)
 }

@@ -1,7 +1,7 @@
 //! Types of sequences: of those of one type followed by another, of their items, and of all
 //! sequences of such items.
 
-mod asking;
+pub(crate) mod asking;
 mod ending;
 mod explore;
 mod item_questions;
@@ -13,8 +13,6 @@ mod question_formulas;
 mod state;
 mod state_formulas;
 mod step;
-mod union;
-mod widest;
 
 pub use join::joined;
 pub use list_type::list_of;

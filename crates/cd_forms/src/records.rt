@@ -10,8 +10,8 @@ ghost use Rattle.cd_empty.specs.Growth.{Grows};
 ghost use Rattle.cd_empty.specs.Seen.{graph_of};
 ghost use Rattle.cd_forms.specs.Labels.{labels_of, AreLabels, AreOnce};
 
-use crate::put::put;
 use crate::sorting::fields_in_order;
+use cd_builders::put;
 use cd_empty::World;
 use cd_graph::Formula;
 use cd_graph::built_in::EMPTY;

@@ -11,6 +11,7 @@ ghost use Rattle.cd_forms.specs.Inner.Letters.{IsTextBatch};
 use crate::letters::Letters;
 use crate::nodes::after;
 use crate::pairs::{add_pairs, begin};
+use cd_builders::characters;
 use cd_empty::World;
 use cd_graph::{Formula, Formulas};
 use cd_sets::node_id::NodeId;
@@ -55,7 +56,7 @@ fn text_batch(
     ensures { IfOk result
         (λ made. IsTextBatch first text.now end (map plain made.0.items) made.1) }
 {
-    let characters = characters_of(alloc, text)?;
+    let characters = characters(alloc, text)?;
     let mut letters = Letters::new(alloc);
     let heads = letters.nodes_of(alloc, first, characters.as_slice())?;
     let mut formulas = letters.formulas(alloc)?;
@@ -63,12 +64,4 @@ fn text_batch(
     add_pairs(&mut formulas, number, heads.as_slice(), end)?;
     let id = begin(number, heads.as_slice(), end);
     Ok((formulas, id))
-}
-
-// The characters of a text.
-#[tactic(auto, using(std::proofs::lemmas::Str::chars_from_encodes))]
-fn characters_of(alloc: Global, text: &Name) -> Result<Vec<char>, AllocError>
-    ensures { IfOk result (λ characters. characters.items ≡ text.now) }
-{
-    text.as_str().chars().collect(alloc)
 }

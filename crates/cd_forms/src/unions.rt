@@ -1,25 +1,14 @@
-ghost use Rattle.std.specs.Prelude.{◌≡◌, ◌<◌, ◌↔◌, true, map, length, IfOk, OnErr};
-ghost use Rattle.std.specs.Option.{IfSome};
-ghost use Rattle.cd_model.specs.AllOf.{AllOf, AnyOf};
-ghost use Rattle.cd_model.specs.Formula.{IsFormula, IsGraph};
-ghost use Rattle.cd_model.specs.Membership.{holds, reader, answers};
-ghost use Rattle.cd_model.specs.Thing.{Thing, IsElement};
+ghost use Rattle.std.specs.Prelude.{◌≡◌, ◌<◌, map, length, IfOk, OnErr};
+ghost use Rattle.cd_model.specs.AllOf.{AllOf};
+ghost use Rattle.cd_model.specs.Formula.{IsGraph};
 ghost use Rattle.cd_meaning.specs.Sets.{◌⊆◌, elements_of};
 ghost use Rattle.cd_typing.specs.Typ.{typ};
-ghost use Rattle.cd_graph.specs.Nodes.{nodes};
-ghost use Rattle.cd_graph.specs.PlainFormula.{plain};
 ghost use Rattle.cd_empty.specs.Growth.{Grows};
 ghost use Rattle.cd_empty.specs.Seen.{graph_of};
-ghost use Rattle.cd_forms.specs.Inner.Members.{IsOfSame};
 ghost use Rattle.cd_forms.specs.Unions.{IsInOne};
 
-use crate::built_in::empty;
-use crate::members::{likely, members_of, union_formula};
-use crate::put::put;
+use crate::members::{members_of, questions_of};
 use cd_empty::World;
-use cd_graph::{Formula, Graph};
-use cd_needs::asking::question;
-use cd_products::{known_node, question_formula};
 use cd_sets::node_id::NodeId;
 use std::alloc::{AllocError, Global};
 
@@ -43,116 +32,6 @@ pub fn union(alloc: Global, world: &mut World, parts: &[NodeId]) -> Result<NodeI
     // The contract of this call says that the graph begins with the built-in nodes.
     world.graph();
     let members = members_of(alloc, parts)?;
-    of_members(alloc, world, members.ids())
-}
-
-// The same of nodes that are each there once: where there is one, it is that node.
-fn of_members(alloc: Global, world: &mut World, members: &[NodeId]) -> Result<NodeId, AllocError>
-    requires { AllOf (λ id. id.0 < length (graph_of world.old)) members.now }
-    ensures holds { IfOk result (λ id. (e : Thing) → IsElement e
-        → AnyOf (λ one. answers (graph_of world.old) e one true) members.now
-        ↔ answers (graph_of world.new) e id true) }
-    ensures node { IfOk result (λ id. id.0 < length (graph_of world.new)) }
-    ensures unchanged { OnErr result (graph_of world.new ≡ graph_of world.old) }
-    ensures sound { IsGraph (graph_of world.new) }
-    ensures grows { Grows world.old world.new }
-{
-    let nothing = empty(world);
-    match members {
-        [] => Ok(nothing),
-        [one] => Ok(*one),
-        [_, _, ..] => union_of(alloc, world, members),
-    }
-}
-
-// The same, as a new node where no node is found that holds it.
-fn union_of(alloc: Global, world: &mut World, members: &[NodeId]) -> Result<NodeId, AllocError>
-    requires { AllOf (λ id. id.0 < length (graph_of world.old)) members.now }
-    ensures holds { IfOk result (λ id. (e : Thing) → IsElement e
-        → AnyOf (λ one. answers (graph_of world.old) e one true) members.now
-        ↔ answers (graph_of world.new) e id true) }
-    ensures node { IfOk result (λ id. id.0 < length (graph_of world.new)) }
-    ensures unchanged { OnErr result (graph_of world.new ≡ graph_of world.old) }
-    ensures sound { IsGraph (graph_of world.new) }
-    ensures grows { Grows world.old world.new }
-{
-    let formula = union_formula(alloc, world.graph(), members)?;
-    let others = likely(alloc, members)?;
-    let made = put(alloc, world, formula)?;
-    Ok(smaller(alloc, world, made, others.as_slice()))
-}
-
-// A node that holds the same as a node: one of some others, where it is found to do so; else one
-// with a set of each basic kind, where there are no other things; else the node itself.
-fn smaller(alloc: Global, world: &mut World, made: NodeId, others: &[NodeId]) -> NodeId
-    requires made { made.0 < length (graph_of world.old) }
-    requires others { AllOf (λ id. id.0 < length (graph_of world.old)) others.now }
-    ensures holds { (e : Thing) → IsElement e → answers (graph_of world.old) e made true
-        ↔ answers (graph_of world.new) e result true }
-    ensures node { result.0 < length (graph_of world.new) }
-    ensures sound { IsGraph (graph_of world.new) }
-    ensures grows { Grows world.old world.new }
-{
-    // The contract of this call says that the graph is sound.
-    world.graph();
-    let known = known_node(world, made, others);
-    if known.0 == made.0 {
-        return in_sets(alloc, world, made);
-    }
-    known
-}
-
-// A node that has a set of each basic kind and holds the same as a node where there are no other
-// things in it, or else the node itself.
-fn in_sets(alloc: Global, world: &mut World, id: NodeId) -> NodeId
-    requires { id.0 < length (graph_of world.old) }
-    ensures holds { (e : Thing) → IsElement e → answers (graph_of world.old) e id true
-        ↔ answers (graph_of world.new) e result true }
-    ensures node { result.0 < length (graph_of world.new) }
-    ensures sound { IsGraph (graph_of world.new) }
-    ensures grows { Grows world.old world.new }
-{
-    match sets_of(alloc, world.graph(), id) {
-        Ok(Some(formula)) => put_or(alloc, world, formula, id),
-        Ok(None) | Err(_) => id,
-    }
-}
-
-// A node with a formula that holds the same as a node, or that node where memory runs out.
-fn put_or(alloc: Global, world: &mut World, formula: Formula, id: NodeId) -> NodeId
-    requires id { id.0 < length (graph_of world.old) }
-    requires same { IsOfSame (graph_of world.old) id (plain formula) }
-    ensures holds { (e : Thing) → IsElement e → answers (graph_of world.old) e id true
-        ↔ answers (graph_of world.new) e result true }
-    ensures node { result.0 < length (graph_of world.new) }
-    ensures sound { IsGraph (graph_of world.new) }
-    ensures grows { Grows world.old world.new }
-{
-    match put(alloc, world, formula) {
-        Ok(made) => made,
-        Err(_) => id,
-    }
-}
-
-// A formula with a set of each basic kind that holds what a node holds, if there are no other
-// things in it by its form.
-fn sets_of(alloc: Global, graph: &Graph, id: NodeId) -> Result<Option<Formula>, AllocError>
-    requires { id.0 < length (nodes graph.now) }
-    ensures { IfOk result
-        (λ found. IfSome found (λ is. IsOfSame (nodes graph.now) id (plain is))) }
-{
-    let question = question(alloc, &[id], &[])?;
-    let formula = question_formula(alloc, graph, &question)?;
-    if is_union(&formula) {
-        return Ok(Some(formula));
-    }
-    Ok(None)
-}
-
-// The formula of a question is a union where it was made of sets.
-fn is_union(formula: &Formula) -> bool {
-    match formula {
-        Formula::Or(_) => true,
-        _ => false,
-    }
+    let questions = questions_of(alloc, members.ids())?;
+    cd_builders::union(alloc, world, questions.as_slice())
 }

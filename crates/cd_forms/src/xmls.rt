@@ -5,7 +5,7 @@ ghost use Rattle.cd_typing.specs.Results.{IsXmlOf};
 ghost use Rattle.cd_empty.specs.Growth.{Grows};
 ghost use Rattle.cd_empty.specs.Seen.{graph_of};
 
-use crate::put::put;
+use cd_builders::put;
 use cd_empty::World;
 use cd_graph::Formula;
 use cd_sets::node_id::NodeId;

@@ -9,6 +9,7 @@ ghost use Rattle.cd_operators.specs.Misfits.{Misses, IsMisfitOf, IsMisfitOfBoth}
 use crate::misfit::{Misfit, Side, Stop};
 use cd_elements::ElementId;
 use cd_empty::World;
+use cd_products::is_seen_within;
 use cd_sets::node_id::NodeId;
 use cd_typing::rule::Rule;
 use cd_verdicts::Verdict;
@@ -33,6 +34,9 @@ pub fn outside(
     ensures graph { graph_of world.new ≡ graph_of world.old }
     ensures grows { Grows world.old world.new }
 {
+    if is_seen_within(world.graph(), id, needed) {
+        return Ok(None);
+    }
     match world.subtype(id, needed)? {
         Verdict::Empty => Ok(None),
         Verdict::Inhabited(element) => Ok(Some(element)),

@@ -8,9 +8,10 @@ ghost use Rattle.cd_operators.specs.Inner.Results.{AreIntegersOf, AreResults};
 
 use crate::combined::combined;
 use crate::operation::Operation;
+use cd_builders::put;
 use cd_empty::World;
 use cd_graph::built_in::INT;
-use cd_graph::{Formula, Formulas, Graph};
+use cd_graph::{Formula, Graph};
 use cd_needs::asking::question;
 use cd_normal::basics;
 use cd_products::known_node;
@@ -43,7 +44,7 @@ pub(crate) fn results(
     let one = integers_of(alloc, world.graph(), first)?;
     let other = integers_of(alloc, world.graph(), second)?;
     let all = Formula::ints(combined(alloc, operation, &one, &other)?);
-    let id = world.extend(Formulas::of(vec![in alloc; all]?)?)?;
+    let id = put(alloc, world, all)?;
     Ok(known_node(world, id, &[first, second, INT]))
 }
 

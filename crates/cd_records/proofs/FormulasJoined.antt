@@ -23,12 +23,11 @@ use Rattle.cd_model.proofs.FormulasAmongMore.{formula_among_more}
 use Rattle.cd_rules.specs.InRow.{thing_at, IsInCell}
 use Rattle.cd_rules.proofs.InCells.{Says}
 use Rattle.cd_rows.proofs.RowsWithWitnesses.{IsOfSort, at_labels}
-use Rattle.cd_products.specs.Keeping.{IsFormulaOfQuestion}
-use Rattle.cd_records.specs.Inner.Entries.{Entry, InOneQuestion}
+use Rattle.cd_records.specs.Inner.Entries.{Entry}
 use Rattle.cd_records.specs.Inner.Rests.{HoldsRest, IsOfRests, Rest}
 use Rattle.cd_records.specs.Inner.Standing.{Adds, HasOther, HoldsOther, HoldsOutside, HoldsRecords}
-use Rattle.cd_records.specs.Inner.Standing.{IsAsSaid, IsRest, IsUnion, longer, open_fields}
-use Rattle.cd_records.proofs.AloneNodes.{at_least}
+use Rattle.cd_records.specs.Inner.Standing.{IsAsSaid, IsRest, longer, open_fields}
+use Rattle.cd_records.proofs.BuiltInsBelow.{at_least}
 use Rattle.cd_records.proofs.Lookups.{not_same, same_name}
 use Rattle.cd_records.proofs.RecordsStand.{as_had, had}
 
@@ -293,50 +292,3 @@ module _ (graph : Graph) (batch : List Formula) where
         one_of_one : {A : Type 0} → (A ⊎ ⊥) ↔ A
         one_of_one = (λ one. elim one [ inl a ↦ a | inr none ↦ absurd none ], λ a. inl a)
     one_rest_holds (rest ∷ other ∷ rests) f are = absurd are.1
-
--- the union of what questions ask
-module _ (graph : Graph) where
-  one_question : (questions : List Question) (fs : List Formula)
-      → AllZip (IsFormulaOfQuestion graph) questions fs → (e : Thing) → IsElement e
-      → InOneQuestion (in_node graph) questions e
-      ↔ one_holds (reader graph e) (formulas_of fs) true
-  one_question [] [] are e is = itself
-  one_question [] (f ∷ fs) are e is = absurd are
-  one_question (question ∷ questions) [] are e is = absurd are
-  one_question (question ∷ questions) (f ∷ fs) are e is =
-      one_agrees (are.0.elements e is) (one_question questions fs are.1 e is)
-
-  questions_sound : (questions : List Question) (fs : List Formula)
-      → AllZip (IsFormulaOfQuestion graph) questions fs
-      → AreFormulas (length graph) (formulas_of fs)
-  questions_sound [] [] are = tt
-  questions_sound [] (f ∷ fs) are = absurd are
-  questions_sound (question ∷ questions) [] are = absurd are
-  questions_sound (question ∷ questions) (f ∷ fs) are =
-      (are.0.sound, questions_sound questions fs are.1)
-
-  pub is_union : (questions : List Question) (fs : List Formula)
-      → AllZip (IsFormulaOfQuestion graph) questions fs
-      → IsUnion graph questions (Or (formulas_of fs))
-  is_union questions fs are = record {
-    elements = λ e is. one_question questions fs are e is;
-    sound = questions_sound questions fs are;
-  }
-
-  pub is_one : (question : Question) (f : Formula) → IsFormulaOfQuestion graph question f
-      → IsUnion graph (question ∷ []) f
-  is_one question f is_formula = record {
-    elements = λ e is. (
-      λ one. elim one [ inl inside ↦ (is_formula.elements e is).0 inside | inr none ↦ absurd none ],
-      λ h. inl ((is_formula.elements e is).1 h),
-    );
-    sound = is_formula.sound;
-  }
-
-  -- as the code makes it
-  pub union_made : (questions : List Question) (fs : List Formula)
-      → AllZip (IsFormulaOfQuestion graph) questions fs → (list : List Formula) → list ≡ fs
-      → (f : Formula) → f ≡ Or (formulas_of list) → IsUnion graph questions f
-  union_made questions fs are list same f is = subst (IsUnion graph questions)
-      (sym (is ∙ ap (λ (fs : List Formula). Or (formulas_of fs)) same))
-      (is_union questions fs are)

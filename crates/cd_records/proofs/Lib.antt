@@ -6,7 +6,7 @@ pub mod LabelsRise
 pub mod MergedEntries
 pub mod NodesStand
 pub mod MadeNodes
-pub mod AloneNodes
+pub mod BuiltInsBelow
 pub mod RecordsStand
 pub mod MergedRecords
 pub mod ChoicesMade
@@ -19,7 +19,6 @@ pub mod Zips
 pub mod FoundCells
 pub mod UnionNodes
 pub mod LabelsPlaced
-pub mod NewNodes
 pub mod LoopsOfChoices
 pub mod FieldsMade
 pub mod RowsThere

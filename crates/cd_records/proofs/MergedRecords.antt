@@ -30,7 +30,7 @@ use Rattle.cd_records.specs.Inner.Saying.{asked_by, every_of, one_may_lack, merg
 use Rattle.cd_records.specs.Inner.Saying.{merged_every, merged_entries, with_questions}
 use Rattle.cd_records.specs.Inner.Rests.{IsMergedNode, IsMergedSaid, merged_labels}
 use Rattle.cd_records.specs.Inner.Standing.{IsNodeFor}
-use Rattle.cd_records.proofs.AloneNodes.{empty_below}
+use Rattle.cd_records.proofs.BuiltInsBelow.{empty_below}
 use Rattle.cd_records.proofs.LabelsRise.{rows_rise, rows_still, rows_have}
 use Rattle.cd_records.proofs.Lookups.{names_differ, same_name, not_same, of_no_cell}
 use Rattle.cd_records.proofs.MergedEntries.{any_passes, merged_in_entry, entry_is_merged}

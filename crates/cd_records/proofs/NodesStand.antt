@@ -14,8 +14,9 @@ use Rattle.cd_model.proofs.BothWays.{itself, through}
 use Rattle.cd_model.proofs.Extending.{kept_elements, kept_formulas}
 use Rattle.cd_model.proofs.Ones.{each_weaker, each_of_lists}
 use Rattle.cd_model.proofs.FormulasAmongMore.{formula_among_more}
+use Rattle.cd_builders.specs.Unions.{IsFormulaOfUnion}
 use Rattle.cd_records.specs.Inner.Entries.{Entry, InOneQuestion}
-use Rattle.cd_records.specs.Inner.Standing.{Adds, IsUnion, HoldsUnion, HoldsOutside}
+use Rattle.cd_records.specs.Inner.Standing.{Adds, HoldsUnion, HoldsOutside}
 use Rattle.cd_records.specs.Inner.Standing.{AreFieldsOf, longer}
 
 -- the formula that stands after those of a graph and of a batch
@@ -101,7 +102,7 @@ module _ (graph : Graph) (sound : IsGraph graph) where
         (sym (stands graph batch f more id at))
         (kept_formulas graph ((batch ++ (f ∷ [])) ++ more) sound e f false f_is)
 
-    pub holds_new : (questions : List Question) → IsUnion graph questions f
+    pub holds_new : (questions : List Question) → IsFormulaOfUnion graph questions f
         → HoldsUnion graph (batch ++ (f ∷ [])) questions id
     holds_new questions union = record {
       node = below;

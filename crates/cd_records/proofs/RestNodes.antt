@@ -16,7 +16,7 @@ use Rattle.cd_meaning.specs.Sets.{elements_of}
 use Rattle.cd_records.specs.Inner.Rests.{AreRests, IsOfRest, IsOfRests, IsRestNode, Rest}
 use Rattle.cd_records.specs.Inner.Rows.{AreRowsOf}
 use Rattle.cd_records.specs.Inner.Standing.{IsNodeFor}
-use Rattle.cd_records.proofs.AloneNodes.{empty_below}
+use Rattle.cd_records.proofs.BuiltInsBelow.{empty_below}
 use Rattle.cd_records.proofs.RestsOfRows.{rest_to_row, row_to_rest}
 use Rattle.cd_records.proofs.RowsOfNodes.{record_of_rows, row_of_record}
 

@@ -1,7 +1,7 @@
 -- Lists whose things belong together one by one.
-use Rattle.std.proofs.Common.{◌≡◌, ◌<◌, ◌+◌, ◌≤◌, ℕ, zero, suc, arith, List, [], ◌∷◌, ◌++◌, map, take, get_or, length, sym, ap}
+use Rattle.std.proofs.Common.{◌≡◌, ◌<◌, ◌+◌, ℕ, zero, suc, arith, List, [], ◌∷◌, ◌++◌, map, take, get_or, length, sym, ap}
 use Rattle.std.proofs.Common.{subst, ◌∙◌}
-use Rattle.std.proofs.lemmas.List.{take_more, take_all, map-append}
+use Rattle.std.proofs.lemmas.List.{take_more, map-append}
 use Rattle.std.specs.List.{AllZip}
 use Rattle.cd_model.specs.AllOf.{AllOf}
 
@@ -24,13 +24,6 @@ zip_more {A = A} {B = B} f g Fact xs k x below is ys after y put before made =
     (subst (λ (others : List B). AllZip Fact (map f (take k xs) ++ f x ∷ []) others)
     (sym (ap (map g) put ∙ map-append g ys (y ∷ [])))
     (pushed Fact (map f (take k xs)) (map g ys) (f x) (g y) before made))
-
--- and at its end
-pub zip_all : {X A B : Type 0} (f : X → A) (Fact : A → B → Type 0) (xs : List X) (k : ℕ)
-    → length xs ≤ k → (others : List B) → AllZip Fact (map f (take k xs)) others
-    → AllZip Fact (map f xs) others
-zip_all {X = X} f Fact xs k past others all =
-    subst (λ (some : List X). AllZip Fact (map f some) others) (take_all k xs past) all
 
 -- what each thing in a list has, the one at a place has
 at_place : {X : Type 0} (Fact : X → Type 0) (xs : List X) (k : ℕ) (x : X) → AllOf Fact xs

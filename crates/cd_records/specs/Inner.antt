@@ -4,7 +4,6 @@ pub mod Labels
 pub mod Rows
 pub mod Saying
 pub mod Leaving
-pub mod Alone
 pub mod Standing
 pub mod Rests
 pub mod Plain

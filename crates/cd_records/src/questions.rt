@@ -23,6 +23,17 @@ pub(crate) fn distinct(alloc: Global, questions: &[Question]) -> Result<Vec<&Que
     Ok(all)
 }
 
+/// Copies of questions.
+pub(crate) fn copies(alloc: Global, questions: &[&Question]) -> Result<Vec<Question>, AllocError>
+    ensures { IfOk result (λ all. all.items ≡ plain_questions questions.now) }
+{
+    let mut all = Vec::with_capacity(alloc, questions.len())?;
+    for question in questions {
+        all.push(question.copy()?)?;
+    }
+    Ok(all)
+}
+
 /// Adds what rows ask at a label.
 pub(crate) fn add_asked<'r>(
     rows: &'r [Row],

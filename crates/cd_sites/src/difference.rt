@@ -1,5 +1,5 @@
 //! What is in one node and outside another.
-ghost use Rattle.std.specs.Prelude.{◌≡◌, ◌<◌, ◌++◌, ◌∷◌, [], length, map, IfOk, OnOk};
+ghost use Rattle.std.specs.Prelude.{◌<◌, length, map, IfOk};
 ghost use Rattle.cd_model.specs.AllOf.{AllOf};
 ghost use Rattle.cd_model.specs.Formula.{IsFormula, IsGraph};
 ghost use Rattle.cd_graph.specs.PlainFormula.{plain};
@@ -10,6 +10,7 @@ ghost use Rattle.cd_sites.specs.Inner.Differences.{IsDifference, IsLeftOver};
 use crate::members::members_of;
 use crate::rest::{formula_without, left_of_each};
 use crate::tests::is_within;
+use cd_builders::put;
 use cd_empty::World;
 use cd_graph::built_in::EMPTY;
 use cd_graph::{Formula, Formulas};
@@ -85,17 +86,4 @@ fn left_of_members(
     let first = world.extend(Formulas::of(members)?)?;
     let left = left_of_each(alloc, world, first, other)?;
     Ok(put(alloc, world, Formula::or(Formulas::of(left)?))?)
-}
-
-// Puts a formula into the graph, as its last node.
-fn put(alloc: Global, world: &mut World, formula: Formula) -> Result<NodeId, AllocError>
-    requires { IsFormula (length (graph_of world.old)) (plain formula) }
-    ensures last { IfOk result (λ id. id.0 ≡ length (graph_of world.old)) }
-    ensures added { OnOk result (graph_of world.new ≡ graph_of world.old ++ (plain formula ∷ [])) }
-    ensures sound { IsGraph (graph_of world.new) }
-    ensures grows { Grows world.old world.new }
-{
-    // The contract of this call says that the graph is sound.
-    world.graph();
-    world.extend(Formulas::of(vec![in alloc; formula]?)?)
 }

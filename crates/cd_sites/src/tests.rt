@@ -5,11 +5,13 @@ ghost use Rattle.cd_empty.specs.Growth.{Grows};
 ghost use Rattle.cd_empty.specs.Seen.{graph_of};
 
 use cd_empty::World;
+use cd_products::{is_likely_within, is_seen_within};
 use cd_sets::node_id::NodeId;
 use cd_verdicts::Verdict;
 use std::alloc::AllocError;
 
-/// Whether all that is in the one node is in the other.
+/// Whether all that is in the one node is found to be in the other. Where that is not likely it is no
+/// question.
 pub(crate) fn is_within(world: &mut World, one: NodeId, other: NodeId) -> Result<bool, AllocError>
     requires one { one.0 < length (graph_of world.old) }
     requires other { other.0 < length (graph_of world.old) }
@@ -20,7 +22,12 @@ pub(crate) fn is_within(world: &mut World, one: NodeId, other: NodeId) -> Result
     ensures grows { Grows world.old world.new }
 {
     // The contract of this call says that the graph is sound.
-    world.graph();
+    if is_seen_within(world.graph(), one, other) {
+        return Ok(true);
+    }
+    if !is_likely_within(world.graph(), one, other) {
+        return Ok(false);
+    }
     Ok(is_empty(world.subtype(one, other)?))
 }
 

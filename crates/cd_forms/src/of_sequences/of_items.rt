@@ -9,7 +9,7 @@ ghost use Rattle.cd_empty.specs.Seen.{graph_of};
 use crate::of_sequences::ending::ending;
 use crate::of_sequences::explore::explore;
 use crate::of_sequences::item_questions::item_questions;
-use crate::of_sequences::union::union_of;
+use cd_builders::union;
 use cd_empty::World;
 use cd_sets::node_id::NodeId;
 use std::alloc::{AllocError, Global};
@@ -37,5 +37,5 @@ pub fn items(alloc: Global, world: &mut World, list: NodeId) -> Result<NodeId, A
     let states = explored.states.as_slice();
     let marks = ending(alloc, states)?;
     let questions = item_questions(alloc, states, marks.as_slice())?;
-    union_of(alloc, world, &questions)
+    union(alloc, world, questions.items())
 }

@@ -29,12 +29,6 @@ module _ (graph : Graph) where
   Adds old new = (more : List Formula) × (new ≡ old ++ more)
       × AllOf (IsFormula (length graph)) more
 
-  -- a formula of the graph that holds what is in one of the questions
-  pub record IsUnion (questions : List Question) (f : Formula) : Type 0 where
-    pub elements : (e : Thing) → IsElement e
-        → InOneQuestion (in_node graph) questions e ↔ holds (reader graph e) f true
-    pub sound : IsFormula (length graph) f
-
   -- a record is at each name as the entries say
   abbrev pub IsAsSaid : List (Name × Entry) → List Question → thing.Fields → Type 0
   IsAsSaid entries every fields = (name : Name)
@@ -122,10 +116,3 @@ pub record IsNodeFor (new : Graph) (IsSo : thing.Fields → Type 0) (id : NodeId
   pub exact : (fields : thing.Fields) → IsElement (thing.Record fields)
       → IsSo fields ↔ in_node new (thing.Record fields) id true
   pub records : (d : Thing) → in_node new d id true → IsRecord d
-
--- in another graph a node holds what is in one of some questions of this one
-pub record IsUnionNode (graph new : Graph) (questions : List Question) (id : NodeId)
-    : Type 0 where
-  pub node : id.0 < length new
-  pub elements : (e : Thing) → IsElement e
-      → InOneQuestion (in_node graph) questions e ↔ in_node new e id true

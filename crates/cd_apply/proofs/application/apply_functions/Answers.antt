@@ -33,9 +33,9 @@ returns-in-Fails-clause-applied c = outside_as_found (graph_of c.args.world.now)
 
 pub returns-clause-applied : goal.returns-clause-applied
 returns-clause-applied c = results_as_found (graph_of c.args.world.now) c.args.function
-    c.args.argument (table_of c.node_of.new.world) c.requires.functions
+    c.args.argument (table_of c.union.new.world) c.requires.functions
     (map plain_function_clause c.as_slice.result.now)
-    (are_clauses (goal.at.returns-clause-applied c).After-as_slice) (graph_of c.node_of.new.world)
+    (are_clauses (goal.at.returns-clause-applied c).After-as_slice) (graph_of c.union.new.world)
     c.in_ok-element.field-0 (table_of c.image_of.new.world) c.in_ok-element.ensures.image
     c.in-Union.questions c.in-Union.is (graph_of c.image_of.new.world)
     c.in_ok-element.ensures.graph c.as_slice-in-Union.result.now c.as_slice-in-Union.ensures.value

@@ -1,6 +1,14 @@
+use Rattle.std.proofs.Common.{subst}
+use Rattle.cd_model.specs.Formula.{Graph, IsWithin}
 use Rattle.cd_empty.specs.Seen.{graph_of, table_of}
 use Rattle.cd_operators.proofs.Missing.{missing}
 use Rattle.cd_operators.proofs.need.outside.Goals as goal
+
+-- all of the one node is seen to be in the other
+pub returns-then-is_seen_within-clause-found : goal.returns-then-is_seen_within-clause-found
+returns-then-is_seen_within-clause-found c =
+    subst (λ (g : Graph). IsWithin g c.args.id c.args.needed) c.graph.ensures.graph
+    (c.is_seen_within.ensures.elements c.if-is_seen_within.true)
 
 -- the element of the verdict is in the one node and outside the other
 pub returns-in-Inhabited-clause-found : goal.returns-in-Inhabited-clause-found

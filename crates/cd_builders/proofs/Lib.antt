@@ -1,0 +1,5 @@
+pub mod AloneNodes
+pub mod OutermostQuestions
+pub mod OneMoreNode
+pub mod UnionFormulas
+pub mod UnionNodes

@@ -1,9 +1,0 @@
-use Rattle.std.proofs.Common.{◌≡◌, ◌++◌, map, drop}
-use Rattle.cd_graph.specs.PlainFormula.{plain}
-use Rattle.cd_forms.specs.Inner.ArrowFormulas.{arrow_formulas}
-use Rattle.cd_forms.proofs.interfaces.meet.Given as goal
-
--- the formulas so far, and those of the arrows that are left, are all
-abbrev pub invariant-loop-argument : goal.invariant-loop-argument
-invariant-loop-argument l = map plain l.formulas.items
-    ++ arrow_formulas (drop l.argument-index l.arrows) ≡ arrow_formulas l.arrows
