@@ -14,7 +14,7 @@ use Rattle.cd_names.specs.ProgramFaults.{names_of}
 use Rattle.cd_typing.specs.Later.{IsLater}
 use Rattle.cd_typing.specs.Branches.{HoldCaptured}
 use Rattle.cd_typing.specs.Typing.{Has}
-use Rattle.cd_typing.proofs.Later.{later_in, earlier_in, below_later, later_still}
+use Rattle.cd_typing.proofs.Later.{later_in, earlier_in, below_later}
 use Rattle.cd_coming.specs.CapturedTypes.{types_of}
 use Rattle.cd_coming.specs.Coming.{NothingComes, SomethingComes}
 use Rattle.cd_sites.specs.declared.site.Site.{Site}
@@ -28,7 +28,7 @@ use Rattle.cd_check.specs.Inner.Environment.{Nodes, AreNodes, AreNodesOf, Gives,
 use Rattle.cd_check.specs.Inner.Giving.{ExprGives}
 use Rattle.cd_check.specs.Inner.Limits.{IsLimit, AreWithin, IsOneWithin}
 use Rattle.cd_check.specs.Inner.GoingOn.{listed}
-use Rattle.cd_check.specs.Inner.Ready.{IsReady, IsAfter, program_of, names_seen, scope_of, seen_by}
+use Rattle.cd_check.specs.Inner.Ready.{IsReady, program_of, names_seen, scope_of, seen_by}
 use Rattle.cd_check.specs.Inner.SoundNames.{IsSound}
 use Rattle.cd_check.proofs.Divided.{left_untaken}
 use Rattle.cd_check.proofs.OwnNames.{body_sound, names_in}
@@ -64,14 +64,6 @@ pub ready_all : (base : Base) (graph : Graph) (locals own all : Nodes) → all �
     → IsReady base graph all
 ready_all base graph locals own all same are ready = ready_with base graph locals all
     (subst (AreNodesOf graph) (sym (seen_all base locals own all same)) (both_nodes_of graph own (seen_by base locals) are ready.nodes)) ready
-
--- the graph is ready for the others again
-pub after_all : (base : Base) (old middle new : Graph) (locals all : Nodes) → IsReady base old locals → IsLater old middle
-    → IsAfter base all middle new → IsAfter base locals old new
-after_all base old middle new locals all ready is after = record {
-  later = later_still old middle new is after.later;
-  ready = ready_later base old new (later_still old middle new is after.later) locals ready;
-}
 
 -- nothing is taken
 pub none_gives : (graph : Graph) (scope : Scope) (sited : Sited) → IsSited graph scope sited → (nodes : Nodes) (new : Graph) (matched : NodeId)

@@ -10,6 +10,7 @@ use Rattle.cd_program.specs.Expr.{Branches, ABranch, branches_of}
 use Rattle.cd_program.specs.PlainExpr.{plain_branch}
 use Rattle.cd_program.specs.declared.expr.Branch.{Branch as CodeBranch}
 use Rattle.cd_meaning.specs.Sets.{elements_of}
+use Rattle.cd_empty.specs.Seen.{Seen, graph_of}
 use Rattle.cd_names.specs.ProgramFaults.{names_of, patterns}
 use Rattle.cd_typing.specs.Typ.{typ}
 use Rattle.cd_check.specs.declared.base.Base.{Base}
@@ -37,17 +38,17 @@ use Rattle.cd_check.proofs.Loops.{left_is}
 use Rattle.cd_check.proofs.SoundAt.{body_at}
 
 -- the bodies of so many branches are checked, and the rest comes to those that are left
-pub record Done (base : Base) (locals : Nodes) (old : Graph) (division : Division) (branches : Branches) (items : List CodeBranch)
-    (limit : Option Limit) (graph : Graph) (number : ℕ) (results : List NodeId) : Type 0 where
-  pub after : IsAfter base locals old graph
+pub record Done (base : Base) (locals : Nodes) (start : Seen) (division : Division) (branches : Branches) (items : List CodeBranch)
+    (limit : Option Limit) (world : Seen) (number : ℕ) (results : List NodeId) : Type 0 where
+  pub after : IsAfter base locals start world
   pub next : NodeId
-  pub comes : Come graph (scope_of base) next (drop number division.comings.items) division.rest
+  pub comes : Come (graph_of world) (scope_of base) next (drop number division.comings.items) division.rest
   pub same : map coming_pattern (drop number division.comings.items) ≡ patterns (branches_of (map plain_branch (drop number items)))
-  pub goes : BodiesGoOn (scope_of base) old (seen_by base locals) (typ old division.matched) graph branches
-      (branches_of (map plain_branch (drop number items))) (typ graph next) results
-  pub within : AreWithin graph limit results
-  pub known : BodiesKnown (scope_of base) old (seen_by base locals) (elements_of old division.matched) limit graph branches
-      (branches_of (map plain_branch (drop number items))) (elements_of graph next) results
+  pub goes : BodiesGoOn (scope_of base) (graph_of start) (seen_by base locals) (typ (graph_of start) division.matched) (graph_of world) branches
+      (branches_of (map plain_branch (drop number items))) (typ (graph_of world) next) results
+  pub within : AreWithin (graph_of world) limit results
+  pub known : BodiesKnown (scope_of base) (graph_of start) (seen_by base locals) (elements_of (graph_of start) division.matched) limit (graph_of world) branches
+      (branches_of (map plain_branch (drop number items))) (elements_of (graph_of world) next) results
 
 abbrev IsSome : List Tree → Type 0
 IsSome [] = ⊥
@@ -63,12 +64,15 @@ pub past : (comings : List Coming) (number : ℕ) (found : Option (Bor Coming)) 
     → found ≡ None → length comings ≤ number
 past comings number found at is = (subst (λ (some : Option (Bor Coming)). IsItemAt comings number some) is at).3
 
-module _ (base : Base) (locals : Nodes) (old : Graph) (ready : IsReady base old locals) (division : Division) (branches : Branches)
+module _ (base : Base) (locals : Nodes) (start : Seen) (ready : IsReady base (graph_of start) locals) (division : Division) (branches : Branches)
     (items : List CodeBranch) (limit : Option Limit) where
+  abbrev old : Graph
+  old = graph_of start
+
   pub none_done : branches_of (map plain_branch items) ≡ branches → IsDivision old (scope_of base) division
-      → map coming_pattern division.comings.items ≡ patterns branches → Done base locals old division branches items limit old 0 []
+      → map coming_pattern division.comings.items ≡ patterns branches → Done base locals start division branches items limit start 0 []
   none_done are is same = record {
-    after = after_none base locals old ready;
+    after = after_none base locals start ready;
     next = division.matched;
     comes = is;
     same = same ∙ ap patterns (sym are);
@@ -81,28 +85,31 @@ module _ (base : Base) (locals : Nodes) (old : Graph) (ready : IsReady base old 
         (none_known (scope_of base) old (seen_by base locals) (elements_of old division.matched) limit branches);
   }
 
-  pub all_done : (graph : Graph) (number : ℕ) (results : List NodeId)
-      → Done base locals old division branches items limit graph number results → length items ≤ number
-      → BodiesGive base old locals graph branches division.matched results
-  all_done graph number results done over = record {
+  pub all_done : (world : Seen) (number : ℕ) (results : List NodeId)
+      → Done base locals start division branches items limit world number results → length items ≤ number
+      → BodiesGive base old locals (graph_of world) branches division.matched results
+  all_done world number results done over = record {
     are_nodes = done.goes.are_nodes;
-    have_types = bodies_end (scope_of base) old ready.sound (seen_by base locals) ready.nodes (typ old division.matched) graph
-        done.after.ready.sound branches (typ graph done.next) results
-        (subst (λ left. BodiesGoOn (scope_of base) old (seen_by base locals) (typ old division.matched) graph branches
-        (branches_of (map plain_branch left)) (typ graph done.next) results) (drop_all number items over) done.goes);
+    have_types = bodies_end (scope_of base) old ready.sound (seen_by base locals) ready.nodes (typ old division.matched) (graph_of world)
+        done.after.ready.sound branches (typ (graph_of world) done.next) results
+        (subst (λ left. BodiesGoOn (scope_of base) old (seen_by base locals) (typ old division.matched) (graph_of world) branches
+        (branches_of (map plain_branch left)) (typ (graph_of world) done.next) results) (drop_all number items over) done.goes);
   }
 
-  pub all_done_least : (graph : Graph) (number : ℕ) (results : List NodeId)
-      → Done base locals old division branches items limit graph number results → length items ≤ number
-      → BodiesLeast (scope_of base) old (seen_by base locals) graph branches (elements_of old division.matched) results
-  all_done_least graph number results done over = all_known (scope_of base) old (seen_by base locals) (elements_of old division.matched) limit graph
-      done.after.ready.sound branches (elements_of graph done.next) results
-      (subst (λ left. BodiesKnown (scope_of base) old (seen_by base locals) (elements_of old division.matched) limit graph branches
-      (branches_of (map plain_branch left)) (elements_of graph done.next) results) (drop_all number items over) done.known)
+  pub all_done_least : (world : Seen) (number : ℕ) (results : List NodeId)
+      → Done base locals start division branches items limit world number results → length items ≤ number
+      → BodiesLeast (scope_of base) old (seen_by base locals) (graph_of world) branches (elements_of old division.matched) results
+  all_done_least world number results done over = all_known (scope_of base) old (seen_by base locals) (elements_of old division.matched) limit (graph_of world)
+      done.after.ready.sound branches (elements_of (graph_of world) done.next) results
+      (subst (λ left. BodiesKnown (scope_of base) old (seen_by base locals) (elements_of old division.matched) limit (graph_of world) branches
+      (branches_of (map plain_branch left)) (elements_of (graph_of world) done.next) results) (drop_all number items over) done.known)
 
-  module _ (graph : Graph) (number : ℕ) (results : List NodeId)
-      (done : Done base locals old division branches items limit graph number results) (item : CodeBranch)
+  module _ (world : Seen) (number : ℕ) (results : List NodeId)
+      (done : Done base locals start division branches items limit world number results) (item : CodeBranch)
       (at : item ≡ get_or items number item) (below : number < length items) where
+    abbrev graph : Graph
+    graph = graph_of world
+
     abbrev rest : Branches
     rest = branches_of (map plain_branch (drop (number + 1) items))
 
@@ -148,38 +155,38 @@ module _ (base : Base) (locals : Nodes) (old : Graph) (ready : IsReady base old 
           (body_at (program_of base) (names_seen base locals) items number item at below
           (subst (λ all. BranchesAreSound (program_of base) (names_seen base locals) all) (sym are) sound))
 
-      pub one_done : IsLimit old limit → (new : Graph) (found : Option NodeId) → IsAfter base locals graph new
-          → BodyGives (scope_of base) graph (seen_by base locals) new (elements_of graph coming.matched) (coming_pattern coming)
-          (plain_branch item).body found → IsOneWithin new limit found
-          → BodyLeast (scope_of base) graph (seen_by base locals) new (elements_of graph coming.matched) (coming_pattern coming)
+      pub one_done : IsLimit old limit → (further : Seen) (found : Option NodeId) → IsAfter base locals world further
+          → BodyGives (scope_of base) graph (seen_by base locals) (graph_of further) (elements_of graph coming.matched) (coming_pattern coming)
+          (plain_branch item).body found → IsOneWithin (graph_of further) limit found
+          → BodyLeast (scope_of base) graph (seen_by base locals) (graph_of further) (elements_of graph coming.matched) (coming_pattern coming)
           (plain_branch item).body found
-          → Done base locals old division branches items limit new (number + 1) (results ++ listed found)
-      one_done is_limit new found after gives fits least = record {
-        after = after_both base locals old graph new done.after after;
+          → Done base locals start division branches items limit further (number + 1) (results ++ listed found)
+      one_done is_limit further found after gives fits least = record {
+        after = after_both base locals start world further done.after after;
         next = here.3;
-        comes = come_later graph new after.later (scope_of base) done.after.ready.sound here.3 left division.rest here.5;
+        comes = come_later graph (graph_of further) after.later (scope_of base) done.after.ready.sound here.3 left division.rest here.5;
         same = rest_same same_all;
-        goes = one_body (scope_of base) old ready.sound (seen_by base locals) ready.nodes (typ old division.matched) graph new
+        goes = one_body (scope_of base) old ready.sound (seen_by base locals) ready.nodes (typ old division.matched) graph (graph_of further)
             done.after.later after.later branches items number item at below done.next here.3
             (first_node graph (scope_of base) here.3 left division.rest here.5) results found done.goes
-            (subst (λ (id : NodeId). BodyGives (scope_of base) graph (seen_by base locals) new (elements_of graph id)
+            (subst (λ (id : NodeId). BodyGives (scope_of base) graph (seen_by base locals) (graph_of further) (elements_of graph id)
             (plain_branch item).pattern (plain_branch item).body found) here.0
-            (subst (λ (pattern : Tree). BodyGives (scope_of base) graph (seen_by base locals) new (elements_of graph coming.matched)
+            (subst (λ (pattern : Tree). BodyGives (scope_of base) graph (seen_by base locals) (graph_of further) (elements_of graph coming.matched)
             pattern (plain_branch item).body found) same_here gives))
             (subst (λ (pattern : Tree). Leaves (scope_of base) pattern (elements_of graph done.next) (elements_of graph here.3)) same_here here.4);
-        within = one_more_within new limit results found
-            (within_later graph new after.later done.after.ready.sound limit (limit_later old graph done.after.later limit is_limit) results
+        within = one_more_within (graph_of further) limit results found
+            (within_later graph (graph_of further) after.later done.after.ready.sound limit (limit_later old graph done.after.later limit is_limit) results
             done.goes.are_nodes done.within) fits;
         known = one_known (scope_of base) old (seen_by base locals) (elements_of old division.matched) limit ready.sound ready.nodes graph
-            done.after.later branches (plain_branch item).pattern (plain_branch item).body rest (elements_of graph done.next) results known_here new
+            done.after.later branches (plain_branch item).pattern (plain_branch item).body rest (elements_of graph done.next) results known_here (graph_of further)
             after.later here.3 (first_node graph (scope_of base) here.3 left division.rest here.5)
             (subst (λ (pattern : Tree). Leaves (scope_of base) pattern (elements_of graph done.next) (elements_of graph here.3)) same_here here.4)
             (subst (λ (pattern : Tree). LeavesNoMore (scope_of base) pattern (elements_of graph done.next) (elements_of graph here.3)) same_here
             here.6)
             found
-            (subst (λ (id : NodeId). BodyLeast (scope_of base) graph (seen_by base locals) new (elements_of graph id) (plain_branch item).pattern
+            (subst (λ (id : NodeId). BodyLeast (scope_of base) graph (seen_by base locals) (graph_of further) (elements_of graph id) (plain_branch item).pattern
             (plain_branch item).body found) here.0
-            (subst (λ (pattern : Tree). BodyLeast (scope_of base) graph (seen_by base locals) new (elements_of graph coming.matched) pattern
+            (subst (λ (pattern : Tree). BodyLeast (scope_of base) graph (seen_by base locals) (graph_of further) (elements_of graph coming.matched) pattern
             (plain_branch item).body found) same_here least));
       }
 

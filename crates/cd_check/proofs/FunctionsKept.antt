@@ -10,6 +10,7 @@ use Rattle.cd_program.specs.PlainExpr.{plain_branches, plain_function}
 use Rattle.cd_program.specs.declared.expr.FunctionTree.{FunctionTree as CodeFunction}
 use Rattle.cd_program.specs.declared.expr.ExprKind.TheViews.{out-FunctionTree}
 use Rattle.cd_meaning.specs.Sets.{◌⊆◌, elements_of}
+use Rattle.cd_empty.specs.Seen.{Seen as World, graph_of}
 use Rattle.cd_names.specs.ProgramFaults.{Seen, with_name}
 use Rattle.cd_typing.specs.Branches.{Cover}
 use Rattle.cd_typing.specs.Later.{IsLater}
@@ -116,17 +117,18 @@ promise_kept base old locals all one promise same kept = subst (λ (f : Function
     (seen_named base locals (out-FunctionTree one).name promise.whole all same) kept))
 
 -- the function has the type of its interface
-pub function_gives : (base : Base) (old : Graph) (locals : Nodes) → IsReady base old locals → (last : Graph) → IsAfter base locals old last
-    → (f : FunctionTree) (nodes : FunctionNodes) → HasPromise (scope_of base) old f nodes.arrows.items nodes.whole
-    → PromiseKept base old locals f nodes
-    → Gives old (seen_by base locals) last (λ types t. FunctionHas (scope_of base) types f t) nodes.whole
-function_gives base old locals ready last after f nodes has kept = record {
-  is_type = type_in base last locals after.ready nodes.whole
-      (below_later old last after.later nodes.whole (whole_below (scope_of base) old f nodes.arrows.items nodes.whole has));
-  has = function_has (scope_of base) old old last (later_itself old ready.sound) after.later ready.sound (seen_by base locals) f
-      nodes.arrows.items nodes.whole (arrows_below (scope_of base) old ready.sound f nodes.arrows.items nodes.whole has)
-      (whole_below (scope_of base) old f nodes.arrows.items nodes.whole has) has kept;
-}
+pub function_gives : (base : Base) (old : World) (locals : Nodes) → IsReady base (graph_of old) locals → (last : World) → IsAfter base locals old last
+    → (f : FunctionTree) (nodes : FunctionNodes) → HasPromise (scope_of base) (graph_of old) f nodes.arrows.items nodes.whole
+    → PromiseKept base (graph_of old) locals f nodes
+    → Gives (graph_of old) (seen_by base locals) (graph_of last) (λ types t. FunctionHas (scope_of base) types f t) nodes.whole
+function_gives base old locals ready last after f nodes has kept =
+    let first = graph_of old in record {
+      is_type = type_in base (graph_of last) locals after.ready nodes.whole
+          (below_later first (graph_of last) after.later nodes.whole (whole_below (scope_of base) first f nodes.arrows.items nodes.whole has));
+      has = function_has (scope_of base) first first (graph_of last) (later_itself first ready.sound) after.later ready.sound (seen_by base locals) f
+          nodes.arrows.items nodes.whole (arrows_below (scope_of base) first ready.sound f nodes.arrows.items nodes.whole has)
+          (whole_below (scope_of base) first f nodes.arrows.items nodes.whole has) has kept;
+    }
 
 -- a fact of each of a list is one of what stands at a place
 pub all_at : {X : Type 0} (Is : X → Type 0) (items : List X) (index : ℕ) (item : X) → item ≡ get_or items index item → index < length items

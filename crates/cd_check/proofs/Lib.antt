@@ -54,6 +54,7 @@ mod OperatorsLeast
 mod Owing
 mod OwnNames
 mod OwnTypes
+mod PatternsAccepted
 mod Places
 mod ProgramFails
 mod ProgramFaultsReported

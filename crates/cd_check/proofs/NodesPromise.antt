@@ -16,7 +16,8 @@ use Rattle.cd_names.specs.Arrows.{AreArrows}
 use Rattle.cd_typing.specs.Interfaces.{AreWritten, AllArrows}
 use Rattle.cd_forms.proofs.ArrowsHold.{interface_has, interface_only}
 use Rattle.cd_evaluation.specs.ProgramInterfaces.{interface_of}
-use Rattle.cd_resolved.specs.Interfaces.{HasInterface, IsMeet}
+use Rattle.cd_meet.specs.Meets.{IsMeet}
+use Rattle.cd_resolved.specs.Interfaces.{HasInterface}
 use Rattle.cd_resolved.specs.Resolved.{HasNodes, function_of}
 use Rattle.cd_resolved.specs.declared.function_nodes.FunctionNodes.{FunctionNodes}
 use Rattle.cd_check.specs.Inner.Promises.{arrows_in, IsPromise, HasPromise, IsPromised}

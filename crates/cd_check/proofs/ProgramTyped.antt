@@ -12,6 +12,7 @@ use Rattle.cd_program.specs.Expr.{FunctionTree, function, Program}
 use Rattle.cd_program.specs.WellMade.{HasName}
 use Rattle.cd_meaning.specs.Sets.{◌⊆◌, elements_of}
 use Rattle.cd_typing.specs.Typ.{typ, In, BuiltIn, Types}
+use Rattle.cd_typing.specs.Kept.{Anything}
 use Rattle.cd_typing.specs.Typed.{IsOfInterface, AreDeclared, GivesData, HasOwnType, IsTyped}
 use Rattle.cd_typing.proofs.BuiltInSets.{node_within}
 use Rattle.cd_typing.proofs.Subsets.{itself, through}
@@ -75,7 +76,7 @@ module _ (scope : Scope) (graph : Graph) where
   module _ (sound : IsGraph graph) where
     pub has_own_type : (nodes : Nodes) (types : Types) → AreOfTypes graph nodes types → (f : FunctionTree)
         → (arrows : List (NodeId × NodeId)) (whole : NodeId) → IsPromisedBy f arrows whole → KeepsPromise scope graph nodes f arrows whole
-        → HasOwnType scope types f
+        → HasOwnType scope Anything types f
     has_own_type nodes types of f arrows whole promise keeps = let same = later_itself graph sound in (
       typ graph whole,
       type_of f arrows whole promise,
@@ -128,7 +129,7 @@ module _ {P : Type 0} (function_of : P → FunctionTree) (arrows_of : P → List
 
   all_have : (nodes : Nodes) (types : Types) → AreOfTypes graph nodes types → (all : List P) → ArePromised all
       → AllOf (λ one. KeepsPromise scope graph nodes (function_of one) (arrows_of one) (whole_of one)) all
-      → AllOf (HasOwnType scope types) (map function_of all)
+      → AllOf (HasOwnType scope Anything types) (map function_of all)
   all_have nodes types of [] promised keep = tt
   all_have nodes types of (one ∷ rest) promised keep = (
     has_own_type scope graph sound nodes types of (function_of one) (arrows_of one) (whole_of one) promised.0 keep.0,
@@ -152,8 +153,8 @@ module _ {P : Type 0} (function_of : P → FunctionTree) (arrows_of : P → List
     types = types_by all;
     declared = subst (λ ts. AreDeclared (ts ∷ []) program.functions (types_by all)) same
         (subst (λ functions. AreDeclared scope functions (types_by all)) are (all_declared all named promised));
-    functions = subst (λ ts. AllOf (HasOwnType (ts ∷ []) (types_by all)) program.functions) same
-        (subst (λ functions. AllOf (HasOwnType scope (types_by all)) functions) are
+    functions = subst (λ ts. AllOf (HasOwnType (ts ∷ []) Anything (types_by all)) program.functions) same
+        (subst (λ functions. AllOf (HasOwnType scope Anything (types_by all)) functions) are
         (all_have (declared (function_names (map function_of all)) (map whole_of all)) (types_by all) (of_types all named) all promised keep));
     main = subst (λ ts. AllOf (GivesData (ts ∷ [])) program.functions) same
         (subst (λ functions. AllOf (GivesData scope) functions) are (all_give all promised main));

@@ -3,6 +3,7 @@ ghost use Rattle.std.specs.Prelude.{◌≡◌, ◌<◌, ◌++◌, Some, map, len
 ghost use Rattle.cd_program.specs.PlainExpr.{plain, plain_branches};
 ghost use Rattle.cd_meaning.specs.Sets.{elements_of};
 ghost use Rattle.cd_names.specs.ProgramFaults.{names_of, patterns};
+ghost use Rattle.cd_empty.specs.Growth.{Grows};
 ghost use Rattle.cd_empty.specs.Seen.{graph_of, table_of};
 ghost use Rattle.cd_check.specs.Inner.BodyFaults.{BodyLeast, BodiesLeast};
 ghost use Rattle.cd_check.specs.Inner.Failing.{BranchesFail, BodyFails, IsBeyond};
@@ -55,8 +56,7 @@ pub(crate) fn check_bodies(
         results.items) }
     ensures within { IfOk result
         (λ results. AreWithin (graph_of world.new) limit results.items) }
-    ensures after { OnOk result
-        (IsAfter base.now locals.now (graph_of world.old) (graph_of world.new)) }
+    ensures after { IsAfter base.now locals.now world.old world.new }
     ensures least { IfOk result (λ results. BodiesLeast (scope_of base.now) (graph_of world.old)
         (seen_by base.now locals.now) (graph_of world.new)
         (plain_branches branches.now) (elements_of (graph_of world.old) division.now.matched)
@@ -98,8 +98,7 @@ pub(crate) fn check_body(
         (elements_of (graph_of world.old) coming.entry.matched) (coming_pattern coming.entry)
         (plain body.now)) }
     ensures within { IfOk result (λ found. IsOneWithin (graph_of world.new) limit found) }
-    ensures after { OnOk result
-        (IsAfter base.now locals.now (graph_of world.old) (graph_of world.new)) }
+    ensures after { IsAfter base.now locals.now world.old world.new }
     ensures least { IfOk result (BodyLeast (scope_of base.now) (graph_of world.old)
         (seen_by base.now locals.now) (graph_of world.new)
         (elements_of (graph_of world.old) coming.entry.matched) (coming_pattern coming.entry)
@@ -132,6 +131,7 @@ fn keep_limit(
     ensures fault { IfErr result
         (IsBeyond (graph_of world.old) (table_of world.new) id limit at) }
     ensures graph { graph_of world.new ≡ graph_of world.old }
+    ensures grows { Grows world.old world.new }
 {
     match limit {
         None => Ok(()),

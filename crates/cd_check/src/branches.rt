@@ -1,5 +1,5 @@
 //! Forms with branches.
-ghost use Rattle.std.specs.Prelude.{◌<◌, ◌++◌, length, IfOk, IfErr, OnOk};
+ghost use Rattle.std.specs.Prelude.{◌<◌, ◌++◌, length, IfOk, IfErr};
 ghost use Rattle.cd_syntax.specs.PlainTree.{plain as plain_tree};
 ghost use Rattle.cd_program.specs.Expr.{Match, Try, Map, Transform, Let};
 ghost use Rattle.cd_program.specs.PlainExpr.{plain, plain_branches};
@@ -49,8 +49,7 @@ pub(crate) fn check_match(
         (plain_branches branches.now) }
     ensures gives { IfOk result (KindGives base.now (graph_of world.old) locals.now
         (graph_of world.new) (Match (plain value.now) (plain_branches branches.now))) }
-    ensures after { OnOk result
-        (IsAfter base.now locals.now (graph_of world.old) (graph_of world.new)) }
+    ensures after { IsAfter base.now locals.now world.old world.new }
     ensures least { IfOk result (KindLeast base.now (graph_of world.old) locals.now
         (graph_of world.new) (Match (plain value.now) (plain_branches branches.now))) }
     ensures fault { IfErr result (KindFails base.now (graph_of world.old) locals.now
@@ -76,8 +75,7 @@ fn check_covering(
         (plain_branches branches.now) }
     ensures gives { IfOk result (BranchesGive base.now (graph_of world.old) locals.now
         (graph_of world.new) matched (plain_branches branches.now)) }
-    ensures after { OnOk result
-        (IsAfter base.now locals.now (graph_of world.old) (graph_of world.new)) }
+    ensures after { IsAfter base.now locals.now world.old world.new }
     ensures least { IfOk result (BranchesLeast (scope_of base.now) (graph_of world.old)
         (seen_by base.now locals.now) (graph_of world.new)
         (plain_branches branches.now) (elements_of (graph_of world.old) matched)) }
@@ -110,8 +108,7 @@ fn check_some(
         (graph_of world.new) (plain_branches branches.now) matched results.items) }
     ensures within { IfOk result
         (λ results. AreWithin (graph_of world.new) limit results.items) }
-    ensures after { OnOk result
-        (IsAfter base.now locals.now (graph_of world.old) (graph_of world.new)) }
+    ensures after { IsAfter base.now locals.now world.old world.new }
     ensures least { IfOk result (λ results. BodiesLeast (scope_of base.now) (graph_of world.old)
         (seen_by base.now locals.now) (graph_of world.new)
         (plain_branches branches.now) (elements_of (graph_of world.old) matched) results.items) }
@@ -142,8 +139,7 @@ pub(crate) fn check_let(
     ensures gives { IfOk result (KindGives base.now (graph_of world.old) locals.now
         (graph_of world.new)
         (Let (plain_tree pattern.now) (plain value.now) (plain rest.now))) }
-    ensures after { OnOk result
-        (IsAfter base.now locals.now (graph_of world.old) (graph_of world.new)) }
+    ensures after { IsAfter base.now locals.now world.old world.new }
     ensures least { IfOk result (KindLeast base.now (graph_of world.old) locals.now
         (graph_of world.new) (Let (plain_tree pattern.now) (plain value.now) (plain rest.now))) }
     ensures fault { IfErr result (KindFails base.now (graph_of world.old) locals.now
@@ -176,8 +172,7 @@ pub(crate) fn check_try(
         (plain_branches branches.now) }
     ensures gives { IfOk result (KindGives base.now (graph_of world.old) locals.now
         (graph_of world.new) (Try (plain body.now) (plain_branches branches.now))) }
-    ensures after { OnOk result
-        (IsAfter base.now locals.now (graph_of world.old) (graph_of world.new)) }
+    ensures after { IsAfter base.now locals.now world.old world.new }
     ensures least { IfOk result (KindLeast base.now (graph_of world.old) locals.now
         (graph_of world.new) (Try (plain body.now) (plain_branches branches.now))) }
     ensures fault { IfErr result (FormFails base.now (graph_of world.old) locals.now
@@ -206,8 +201,7 @@ pub(crate) fn check_map(
         (plain_branches branches.now) }
     ensures gives { IfOk result (KindGives base.now (graph_of world.old) locals.now
         (graph_of world.new) (Map (plain value.now) (plain_branches branches.now))) }
-    ensures after { OnOk result
-        (IsAfter base.now locals.now (graph_of world.old) (graph_of world.new)) }
+    ensures after { IsAfter base.now locals.now world.old world.new }
     ensures least { IfOk result (KindLeast base.now (graph_of world.old) locals.now
         (graph_of world.new) (Map (plain value.now) (plain_branches branches.now))) }
     ensures fault { IfErr result (KindFails base.now (graph_of world.old) locals.now
@@ -237,8 +231,7 @@ pub(crate) fn check_transform(
         (plain_branches branches.now) }
     ensures gives { IfOk result (KindGives base.now (graph_of world.old) locals.now
         (graph_of world.new) (Transform (plain value.now) (plain_branches branches.now))) }
-    ensures after { OnOk result
-        (IsAfter base.now locals.now (graph_of world.old) (graph_of world.new)) }
+    ensures after { IsAfter base.now locals.now world.old world.new }
     ensures least { IfOk result (KindLeast base.now (graph_of world.old) locals.now
         (graph_of world.new) (Transform (plain value.now) (plain_branches branches.now))) }
     ensures fault { IfErr result (FormFails base.now (graph_of world.old) locals.now

@@ -1,5 +1,5 @@
 //! Applications, and chains of operators.
-ghost use Rattle.std.specs.Prelude.{◌<◌, length, map, IfOk, IfErr, OnOk};
+ghost use Rattle.std.specs.Prelude.{◌<◌, length, map, IfOk, IfErr};
 ghost use Rattle.cd_program.specs.Expr.{Apply, Chain, Operand, exprs_of, tails_of};
 ghost use Rattle.cd_program.specs.PlainExpr.{plain, plain_exprs, plain_tail, plain_tails};
 ghost use Rattle.cd_empty.specs.Seen.{graph_of, table_of};
@@ -43,8 +43,7 @@ pub(crate) fn check_apply(
         (plain_exprs exprs.now) }
     ensures gives { IfOk result (KindGives base.now (graph_of world.old) locals.now
         (graph_of world.new) (Apply (plain_exprs exprs.now))) }
-    ensures after { OnOk result
-        (IsAfter base.now locals.now (graph_of world.old) (graph_of world.new)) }
+    ensures after { IsAfter base.now locals.now world.old world.new }
     ensures least { IfOk result (KindLeast base.now (graph_of world.old) locals.now
         (graph_of world.new) (Apply (plain_exprs exprs.now))) }
     ensures fault { IfErr result (KindFails base.now (graph_of world.old) locals.now
@@ -77,8 +76,7 @@ fn check_arguments(
         (exprs_of (map plain arguments.now)) }
     ensures gives { IfOk result (ArgumentsGive base.now (graph_of world.old) locals.now
         (graph_of world.new) function (exprs_of (map plain arguments.now))) }
-    ensures after { OnOk result
-        (IsAfter base.now locals.now (graph_of world.old) (graph_of world.new)) }
+    ensures after { IsAfter base.now locals.now world.old world.new }
     ensures least { IfOk result (ArgumentsLeast base.now (graph_of world.old) locals.now
         (graph_of world.new) function (exprs_of (map plain arguments.now))) }
     ensures fault { IfErr result (ArgumentsFail base.now (graph_of world.old) locals.now
@@ -109,8 +107,7 @@ fn check_argument(
         (plain argument.now) }
     ensures gives { IfOk result (ArgumentGives base.now (graph_of world.old) locals.now
         (graph_of world.new) function (plain argument.now)) }
-    ensures after { OnOk result
-        (IsAfter base.now locals.now (graph_of world.old) (graph_of world.new)) }
+    ensures after { IsAfter base.now locals.now world.old world.new }
     ensures least { IfOk result (ArgumentLeast base.now (graph_of world.old) locals.now
         (graph_of world.new) function (plain argument.now)) }
     ensures fault { IfErr result (ArgumentFails base.now (graph_of world.old) locals.now
@@ -143,8 +140,7 @@ pub(crate) fn check_chain(
         (plain_tails tails.now) }
     ensures gives { IfOk result (KindGives base.now (graph_of world.old) locals.now
         (graph_of world.new) (Chain (plain first.now) (plain_tails tails.now))) }
-    ensures after { OnOk result
-        (IsAfter base.now locals.now (graph_of world.old) (graph_of world.new)) }
+    ensures after { IsAfter base.now locals.now world.old world.new }
     ensures least { IfOk result (KindLeast base.now (graph_of world.old) locals.now
         (graph_of world.new) (Chain (plain first.now) (plain_tails tails.now))) }
     ensures fault { IfErr result (KindFails base.now (graph_of world.old) locals.now
@@ -172,8 +168,7 @@ fn check_tails(
         (plain_tails tails.now) }
     ensures gives { IfOk result (TailsGive base.now (graph_of world.old) locals.now
         (graph_of world.new) first (plain_tails tails.now)) }
-    ensures after { OnOk result
-        (IsAfter base.now locals.now (graph_of world.old) (graph_of world.new)) }
+    ensures after { IsAfter base.now locals.now world.old world.new }
     ensures least { IfOk result (TailsLeast base.now (graph_of world.old) locals.now
         (graph_of world.new) first (plain_tails tails.now)) }
     ensures fault { IfErr result (TailsFail base.now (graph_of world.old) locals.now
@@ -204,8 +199,7 @@ fn check_tail(
         (plain_tail tail.now) }
     ensures gives { IfOk result (TailGives base.now (graph_of world.old) locals.now
         (graph_of world.new) first (plain_tail tail.now)) }
-    ensures after { OnOk result
-        (IsAfter base.now locals.now (graph_of world.old) (graph_of world.new)) }
+    ensures after { IsAfter base.now locals.now world.old world.new }
     ensures least { IfOk result (TailLeast base.now (graph_of world.old) locals.now
         (graph_of world.new) first (plain_tail tail.now)) }
     ensures fault { IfErr result (TailFails base.now (graph_of world.old) locals.now
@@ -244,8 +238,7 @@ fn check_operand(
     requires met { IsMet op }
     ensures gives { IfOk result (TailGives base.now (graph_of world.old) locals.now
         (graph_of world.new) first (Operand op (plain expr.now))) }
-    ensures after { OnOk result
-        (IsAfter base.now locals.now (graph_of world.old) (graph_of world.new)) }
+    ensures after { IsAfter base.now locals.now world.old world.new }
     ensures least { IfOk result (TailLeast base.now (graph_of world.old) locals.now
         (graph_of world.new) first (Operand op (plain expr.now))) }
     ensures fault { IfErr result (TailFails base.now (graph_of world.old) locals.now

@@ -1,5 +1,5 @@
 //! The types of expressions.
-ghost use Rattle.std.specs.Prelude.{IfOk, IfErr, OnOk};
+ghost use Rattle.std.specs.Prelude.{IfOk, IfErr};
 ghost use Rattle.cd_program.specs.Expr.{Call};
 ghost use Rattle.cd_program.specs.PlainExpr.{plain, plain_kind};
 ghost use Rattle.cd_empty.specs.Seen.{graph_of, table_of};
@@ -38,8 +38,7 @@ pub(crate) fn check(
         (plain expr.now) }
     ensures gives { IfOk result (ExprGives base.now (graph_of world.old) locals.now
         (graph_of world.new) (plain expr.now)) }
-    ensures after { OnOk result
-        (IsAfter base.now locals.now (graph_of world.old) (graph_of world.new)) }
+    ensures after { IsAfter base.now locals.now world.old world.new }
     ensures least { IfOk result (ExprLeast base.now (graph_of world.old) locals.now
         (graph_of world.new) (plain expr.now)) }
     ensures fault { IfErr result (ExprFails base.now (graph_of world.old) locals.now
@@ -62,8 +61,7 @@ fn check_kind(
         (plain_kind kind.now) }
     ensures gives { IfOk result (KindGives base.now (graph_of world.old) locals.now
         (graph_of world.new) (plain_kind kind.now)) }
-    ensures after { OnOk result
-        (IsAfter base.now locals.now (graph_of world.old) (graph_of world.new)) }
+    ensures after { IsAfter base.now locals.now world.old world.new }
     ensures least { IfOk result (KindLeast base.now (graph_of world.old) locals.now
         (graph_of world.new) (plain_kind kind.now)) }
     ensures fault { IfErr result (KindFails base.now (graph_of world.old) locals.now
@@ -114,8 +112,7 @@ fn check_call(
         (plain operand.now) }
     ensures gives { IfOk result (KindGives base.now (graph_of world.old) locals.now
         (graph_of world.new) (Call word (plain operand.now))) }
-    ensures after { OnOk result
-        (IsAfter base.now locals.now (graph_of world.old) (graph_of world.new)) }
+    ensures after { IsAfter base.now locals.now world.old world.new }
     ensures least { IfOk result (KindLeast base.now (graph_of world.old) locals.now
         (graph_of world.new) (Call word (plain operand.now))) }
     ensures fault { IfErr result (FormFails base.now (graph_of world.old) locals.now

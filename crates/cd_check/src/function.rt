@@ -36,8 +36,7 @@ pub(crate) fn check_function(
         (plain_function function.now) }
     ensures gives { IfOk result (KindGives base.now (graph_of world.old) locals.now
         (graph_of world.new) (Function (plain_function function.now))) }
-    ensures after { OnOk result
-        (IsAfter base.now locals.now (graph_of world.old) (graph_of world.new)) }
+    ensures after { IsAfter base.now locals.now world.old world.new }
     ensures least { IfOk result (KindLeast base.now (graph_of world.old) locals.now
         (graph_of world.new) (Function (plain_function function.now))) }
     ensures fault { IfErr result (FormFails base.now (graph_of world.old) locals.now
@@ -65,8 +64,7 @@ pub(crate) fn check_promise(
         (plain_function function.now) nodes.now.arrows.items nodes.now.whole }
     ensures kept { OnOk result (PromiseKept base.now (graph_of world.old) locals.now
         (plain_function function.now) nodes.now) }
-    ensures after { OnOk result
-        (IsAfter base.now locals.now (graph_of world.old) (graph_of world.new)) }
+    ensures after { IsAfter base.now locals.now world.old world.new }
     ensures fault { IfErr result (PromiseFails base.now (graph_of world.old) locals.now
         (table_of world.new) (plain_function function.now)) }
 {
@@ -103,8 +101,7 @@ fn check_arrow(
     requires result { arrow.1.0 < length (graph_of world.old) }
     ensures kept { OnOk result (ArrowKept base.now (graph_of world.old) locals.now
         (plain_branches branches.now) arrow) }
-    ensures after { OnOk result
-        (IsAfter base.now locals.now (graph_of world.old) (graph_of world.new)) }
+    ensures after { IsAfter base.now locals.now world.old world.new }
     ensures fault { IfErr result (ArrowFails base.now (graph_of world.old) locals.now
         (table_of world.new) at (plain_branches branches.now) arrow) }
 {

@@ -1,6 +1,7 @@
 //! What is needed of a type, and lists of types.
 ghost use Rattle.std.specs.Prelude.{◌≡◌, ◌<◌, ◌++◌, ◌∷◌, [], length, IfErr, OnOk};
 ghost use Rattle.cd_meaning.specs.Sets.{◌⊆◌, elements_of};
+ghost use Rattle.cd_empty.specs.Growth.{Grows};
 ghost use Rattle.cd_empty.specs.Seen.{graph_of, table_of};
 ghost use Rattle.cd_check.specs.Inner.Known.{IsOutside};
 
@@ -26,6 +27,7 @@ pub(crate) fn need_at(
     ensures fault { IfErr result
         (IsOutside (graph_of world.old) (table_of world.new) id needed at rule) }
     ensures graph { graph_of world.new ≡ graph_of world.old }
+    ensures grows { Grows world.old world.new }
 {
     match outside(world, id, needed)? {
         None => Ok(()),

@@ -1,5 +1,5 @@
 //! Tuples, sequences, records and XML elements.
-ghost use Rattle.std.specs.Prelude.{IfOk, IfErr, OnOk};
+ghost use Rattle.std.specs.Prelude.{IfOk, IfErr};
 ghost use Rattle.cd_program.specs.Expr.{Tuple, Sequence, Record, Xml};
 ghost use Rattle.cd_program.specs.PlainExpr.{plain, plain_exprs, plain_items, plain_item};
 ghost use Rattle.cd_program.specs.PlainExpr.{plain_fields};
@@ -39,8 +39,7 @@ pub(crate) fn check_tuple(
         (plain_exprs exprs.now) }
     ensures gives { IfOk result (KindGives base.now (graph_of world.old) locals.now
         (graph_of world.new) (Tuple (plain_exprs exprs.now))) }
-    ensures after { OnOk result
-        (IsAfter base.now locals.now (graph_of world.old) (graph_of world.new)) }
+    ensures after { IsAfter base.now locals.now world.old world.new }
     ensures least { IfOk result (KindLeast base.now (graph_of world.old) locals.now
         (graph_of world.new) (Tuple (plain_exprs exprs.now))) }
     ensures fault { IfErr result (FormFails base.now (graph_of world.old) locals.now
@@ -63,8 +62,7 @@ fn check_exprs(
         (plain_exprs exprs.now) }
     ensures gives { IfOk result (λ parts. OperandsGive base.now (graph_of world.old) locals.now
         (graph_of world.new) (plain_exprs exprs.now) parts.items) }
-    ensures after { OnOk result
-        (IsAfter base.now locals.now (graph_of world.old) (graph_of world.new)) }
+    ensures after { IsAfter base.now locals.now world.old world.new }
     ensures least { IfOk result (λ parts. OperandsLeast base.now (graph_of world.old) locals.now
         (graph_of world.new) (plain_exprs exprs.now) parts.items) }
     ensures fault { IfErr result (OperandsFail base.now (graph_of world.old) locals.now
@@ -91,8 +89,7 @@ pub(crate) fn check_sequence(
         (plain_items items.now) }
     ensures gives { IfOk result (KindGives base.now (graph_of world.old) locals.now
         (graph_of world.new) (Sequence (plain_items items.now))) }
-    ensures after { OnOk result
-        (IsAfter base.now locals.now (graph_of world.old) (graph_of world.new)) }
+    ensures after { IsAfter base.now locals.now world.old world.new }
     ensures least { IfOk result (KindLeast base.now (graph_of world.old) locals.now
         (graph_of world.new) (Sequence (plain_items items.now))) }
     ensures fault { IfErr result (FormFails base.now (graph_of world.old) locals.now
@@ -115,8 +112,7 @@ fn check_items(
         (plain_items items.now) }
     ensures gives { IfOk result (λ parts. ItemsGive base.now (graph_of world.old) locals.now
         (graph_of world.new) (plain_items items.now) parts.items) }
-    ensures after { OnOk result
-        (IsAfter base.now locals.now (graph_of world.old) (graph_of world.new)) }
+    ensures after { IsAfter base.now locals.now world.old world.new }
     ensures least { IfOk result (λ parts. ItemsLeast base.now (graph_of world.old) locals.now
         (graph_of world.new) (plain_items items.now) parts.items) }
     ensures fault { IfErr result (ItemsFail base.now (graph_of world.old) locals.now
@@ -144,8 +140,7 @@ fn check_item(
         (plain_item item.now) }
     ensures gives { IfOk result (ItemGives base.now (graph_of world.old) locals.now
         (graph_of world.new) (plain_item item.now)) }
-    ensures after { OnOk result
-        (IsAfter base.now locals.now (graph_of world.old) (graph_of world.new)) }
+    ensures after { IsAfter base.now locals.now world.old world.new }
     ensures least { IfOk result (ItemLeast base.now (graph_of world.old) locals.now
         (graph_of world.new) (plain_item item.now)) }
     ensures fault { IfErr result (ItemFails base.now (graph_of world.old) locals.now
@@ -181,8 +176,7 @@ pub(crate) fn check_record(
         (plain_fields fields.now) }
     ensures gives { IfOk result (KindGives base.now (graph_of world.old) locals.now
         (graph_of world.new) (Record (plain_fields fields.now))) }
-    ensures after { OnOk result
-        (IsAfter base.now locals.now (graph_of world.old) (graph_of world.new)) }
+    ensures after { IsAfter base.now locals.now world.old world.new }
     ensures least { IfOk result (KindLeast base.now (graph_of world.old) locals.now
         (graph_of world.new) (Record (plain_fields fields.now))) }
     ensures fault { IfErr result (FormFails base.now (graph_of world.old) locals.now
@@ -205,8 +199,7 @@ fn check_fields(
         (plain_fields fields.now) }
     ensures gives { IfOk result (λ parts. FieldsGive base.now (graph_of world.old) locals.now
         (graph_of world.new) (plain_fields fields.now) parts.items) }
-    ensures after { OnOk result
-        (IsAfter base.now locals.now (graph_of world.old) (graph_of world.new)) }
+    ensures after { IsAfter base.now locals.now world.old world.new }
     ensures least { IfOk result (λ parts. FieldsLeast base.now (graph_of world.old) locals.now
         (graph_of world.new) (plain_fields fields.now) parts.items) }
     ensures fault { IfErr result (FieldsFail base.now (graph_of world.old) locals.now
@@ -239,8 +232,7 @@ pub(crate) fn check_xml(
         (plain content.now) }
     ensures gives { IfOk result (KindGives base.now (graph_of world.old) locals.now
         (graph_of world.new) (Xml (plain tag.now) (plain attributes.now) (plain content.now))) }
-    ensures after { OnOk result
-        (IsAfter base.now locals.now (graph_of world.old) (graph_of world.new)) }
+    ensures after { IsAfter base.now locals.now world.old world.new }
     ensures least { IfOk result (KindLeast base.now (graph_of world.old) locals.now
         (graph_of world.new) (Xml (plain tag.now) (plain attributes.now) (plain content.now))) }
     ensures fault { IfErr result (FormFails base.now (graph_of world.old) locals.now

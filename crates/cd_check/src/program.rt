@@ -13,6 +13,7 @@ ghost use Rattle.cd_placed.specs.Patterns.{all_patterns};
 ghost use Rattle.cd_resolved.specs.Resolved.{IsResolved, Extends, function_of, function_nodes};
 ghost use Rattle.cd_resolved.specs.Resolved.{program_of as program_in};
 ghost use Rattle.cd_resolved.specs.declared.function_nodes.FunctionNodes.{FunctionNodes as Nodes};
+ghost use Rattle.cd_check.specs.Checked.{IsChecked};
 ghost use Rattle.cd_check.specs.Faults.{Reports};
 ghost use Rattle.cd_check.specs.Inner.Divided.{AreSited, sited_pattern};
 ghost use Rattle.cd_check.specs.Inner.Environment.{AreNodesOf, declared};
@@ -28,10 +29,11 @@ use crate::base::Base;
 use crate::fault::CheckError;
 use crate::function::check_promise;
 use crate::needing::need_at;
-use crate::sites::{Sited, sites_of};
+use crate::sites::{Sited, accepted_of, sites_of};
 use cd_empty::World;
 use cd_forms::constant;
 use cd_graph::built_in::DATA;
+use cd_matched::matched_nodes;
 use cd_operators::tools::put_tools;
 use cd_program::expr::FunctionTree;
 use cd_resolve::NameIndex;
@@ -42,7 +44,8 @@ use cd_syntax::name::Name;
 use cd_typing::rule::Rule;
 use std::alloc::{AllocError, Global};
 
-/// Whether a program has types, in a world whose graph begins with its nodes.
+/// Whether a program has types, in a world whose graph begins with its nodes: then a node for each
+/// of its sites, of what may come to it.
 ///
 /// # Errors
 ///
@@ -52,11 +55,14 @@ pub fn check_types(
     alloc: Global,
     world: &mut World,
     program: &Resolved<'_>,
-) -> Result<(), CheckError>
+) -> Result<Vec<NodeId>, CheckError>
     requires resolved { IsResolved program.now }
     requires begins { Extends program.now (graph_of world.old) }
     ensures typed { OnOk result (IsTyped (program_in program.now)) }
+    ensures checked { IfOk result
+        (λ ids. IsChecked (program_in program.now) (graph_of world.new) ids.items) }
     ensures begins { OnOk result (Extends program.now (graph_of world.new)) }
+    ensures grows { Grows world.old world.new }
     ensures fault { IfErr result
         (Reports (table_of world.new) (ProgramFault (program_in program.now))) }
 {
@@ -76,7 +82,9 @@ pub fn check_types(
     )?;
     check_functions(&base, world, functions)?;
     check_main(world, functions)?;
-    Ok(())
+    let accepted = accepted_of(alloc, sites.as_slice())?;
+    let matched = matched_nodes(alloc, world, program, accepted.as_slice())?;
+    Ok(matched)
 }
 
 // The names of the functions.
@@ -181,8 +189,7 @@ fn check_functions(
         functions.now }
     ensures kept { OnOk result (AllOf (λ one. PromiseKept base.now (graph_of world.old) []
         (function_of one) one) functions.now) }
-    ensures after { OnOk result
-        (IsAfter base.now [] (graph_of world.old) (graph_of world.new)) }
+    ensures after { IsAfter base.now [] world.old world.new }
     ensures fault { IfErr result (FunctionsFail base.now (graph_of world.old) (table_of world.new)
         functions.now) }
 {
@@ -199,6 +206,7 @@ fn check_main(world: &mut World, functions: &[FunctionNodes<'_>]) -> Result<(), 
     ensures fault { IfErr result
         (Reports (table_of world.new) (MainsFault (graph_of world.old) functions.now)) }
     ensures graph { graph_of world.new ≡ graph_of world.old }
+    ensures grows { Grows world.old world.new }
 {
     for one in functions {
         if is_main(one.function) {
@@ -229,6 +237,7 @@ fn check_results(
     ensures fault { IfErr result
         (Reports (table_of world.new) (ResultsFault (graph_of world.old) at arrows.now)) }
     ensures graph { graph_of world.new ≡ graph_of world.old }
+    ensures grows { Grows world.old world.new }
 {
     // The contract of this call says that the graph begins with the built-in nodes.
     world.graph();

@@ -16,7 +16,7 @@ ghost use Rattle.cd_resolved.specs.Parts.{IsPatternOf};
 ghost use Rattle.cd_resolved.specs.Resolved.{IsResolved, Extends};
 ghost use Rattle.cd_resolved.specs.Resolved.{program_of as program_in};
 ghost use Rattle.cd_check.specs.Inner.Divided.{IsSited, AreSited, IsDivision};
-ghost use Rattle.cd_check.specs.Inner.Divided.{sited_pattern, coming_pattern};
+ghost use Rattle.cd_check.specs.Inner.Divided.{sited_pattern, accepted_root, coming_pattern};
 ghost use Rattle.cd_check.specs.Inner.Known.{IsOutside};
 ghost use Rattle.cd_check.specs.Inner.Ready.{program_of, scope_of};
 ghost use Rattle.cd_check.specs.Inner.SoundNames.{ArePatternsOf};
@@ -88,6 +88,17 @@ pub(crate) fn sites_of<'k, 't>(
     Ok(sites)
 }
 
+/// The nodes of what the patterns of sites take, one by one.
+pub(crate) fn accepted_of(alloc: Global, sites: &[Sited<'_, '_>]) -> Result<Vec<NodeId>, AllocError>
+    ensures { IfOk result (λ ids. ids.items ≡ map accepted_root sites.now) }
+{
+    let mut ids = Vec::new(alloc);
+    for sited in sites {
+        ids.push(sited.site.accepted.root)?;
+    }
+    Ok(ids)
+}
+
 /// A pattern of the program, and its site.
 pub(crate) fn site_at<'b, 'k, 't>(base: &Base<'b, 'k, 't>, pattern: &Tree) -> &'b Sited<'k, 't>
     requires resolved { IsResolved base.now.resolved.now }
@@ -147,6 +158,7 @@ pub(crate) fn cover(world: &mut World, rest: NodeId, at: usize) -> Result<(), Ch
     ensures fault { IfErr result
         (IsOutside (graph_of world.old) (table_of world.new) rest EMPTY at Rule.NoBranch) }
     ensures graph { graph_of world.new ≡ graph_of world.old }
+    ensures grows { Grows world.old world.new }
 {
     // The contract of this call says that the graph is sound and begins with the built-in nodes.
     world.graph();

@@ -1,5 +1,5 @@
 //! Truth values.
-ghost use Rattle.std.specs.Prelude.{◌≡◌, ◌<◌, true, false, length, IfOk, IfErr, OnOk};
+ghost use Rattle.std.specs.Prelude.{◌≡◌, ◌<◌, true, false, length, IfOk, IfErr};
 ghost use Rattle.cd_model.specs.Formula.{IsGraph};
 ghost use Rattle.cd_meaning.specs.Sets.{◌⊆◌, elements_of};
 ghost use Rattle.cd_program.specs.Expr.{If, Operand};
@@ -49,8 +49,7 @@ pub(crate) fn check_if(
     ensures gives { IfOk result (KindGives base.now (graph_of world.old) locals.now
         (graph_of world.new)
         (If (plain condition.now) (plain then_one.now) (plain else_one.now))) }
-    ensures after { OnOk result
-        (IsAfter base.now locals.now (graph_of world.old) (graph_of world.new)) }
+    ensures after { IsAfter base.now locals.now world.old world.new }
     ensures least { IfOk result (KindLeast base.now (graph_of world.old) locals.now
         (graph_of world.new) (If (plain condition.now) (plain then_one.now) (plain else_one.now))) }
     ensures fault { IfErr result (FormFails base.now (graph_of world.old) locals.now
@@ -80,8 +79,7 @@ pub(crate) fn check_short(
         (plain expr.now) }
     ensures gives { IfOk result (TailGives base.now (graph_of world.old) locals.now
         (graph_of world.new) first (Operand (short_op met) (plain expr.now))) }
-    ensures after { OnOk result
-        (IsAfter base.now locals.now (graph_of world.old) (graph_of world.new)) }
+    ensures after { IsAfter base.now locals.now world.old world.new }
     ensures least { IfOk result (TailLeast base.now (graph_of world.old) locals.now
         (graph_of world.new) first (Operand (short_op met) (plain expr.now))) }
     ensures fault { IfErr result (TailFails base.now (graph_of world.old) locals.now
@@ -109,8 +107,7 @@ fn check_side(
         (plain expr.now) }
     ensures gives { IfOk result (SideGives base.now (graph_of world.old) locals.now
         (graph_of world.new) tested value (plain expr.now)) }
-    ensures after { OnOk result
-        (IsAfter base.now locals.now (graph_of world.old) (graph_of world.new)) }
+    ensures after { IsAfter base.now locals.now world.old world.new }
     ensures least { IfOk result (SideLeast base.now (graph_of world.old) locals.now
         (graph_of world.new) tested value (plain expr.now)) }
     ensures fault { IfErr result (SideFails base.now (graph_of world.old) locals.now
@@ -137,6 +134,7 @@ fn short_side(
         AreTogether (elements_of (graph_of world.old) tested)
         (elements_of (graph_of world.old) (truth_node base.now value)))) }
     ensures graph { graph_of world.new ≡ graph_of world.old }
+    ensures grows { Grows world.old world.new }
 {
     let id = truth(base, value);
     if may_be(base, world, tested, id)? {
@@ -168,6 +166,7 @@ fn may_be(
         → AreTogether (elements_of (graph_of world.old) one)
         (elements_of (graph_of world.old) other)) }
     ensures graph { graph_of world.new ≡ graph_of world.old }
+    ensures grows { Grows world.old world.new }
 {
     let both = question(base.alloc, &[one, other], &[])?;
     match world.decide(&both)? {

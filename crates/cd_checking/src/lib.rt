@@ -145,7 +145,10 @@ pub fn no_types(
         (λ found. IfNone found (Extends program.now (graph_of world.new))) }
 {
     match check_types(alloc, world, program) {
-        Ok(()) => Ok(None),
+        Ok(matched) => {
+            drop(matched);
+            Ok(None)
+        }
         Err(error) => Ok(Some(unmet(alloc, file, text, world, error)?)),
     }
 }

@@ -1,6 +1,6 @@
 use Rattle.cd_apply.specs.Applications.{IsResultNode, AreMappedInto, AreResultsAlone, NamesNoFunction, NamesOutside}
 use Rattle.cd_apply.specs.declared.application.Applied.{Applied}
-use Rattle.cd_check.proofs.After.{after_both, after_grown, after_later, after_none, after_same, after_step}
+use Rattle.cd_check.proofs.After.{after_all, after_both, after_grown, after_none, after_others, after_same, after_start, after_step}
 use Rattle.cd_check.proofs.ArgumentFaults.{no_function, outside_domain}
 use Rattle.cd_check.proofs.Arguments.{argument_follows, tail_follows}
 use Rattle.cd_check.proofs.ArgumentsLeast.{apply_least, narrows_first, one_argument_narrows, all_arguments_narrow}
@@ -8,7 +8,7 @@ use Rattle.cd_check.proofs.ArgumentsLeast.{chain_least, one_tail_narrows, all_ta
 use Rattle.cd_check.proofs.ArrowFaults.{arrow_uncovered, arrow_body_fault, within_result}
 use Rattle.cd_check.proofs.ArrowsKept.{KeptAt}
 use Rattle.cd_check.proofs.BodiesChecked.{body_is_sound, one_gives, limit_later, nothing_comes, something_comes}
-use Rattle.cd_check.proofs.BodiesChecked.{ready_all, after_all, none_gives}
+use Rattle.cd_check.proofs.BodiesChecked.{ready_all, none_gives}
 use Rattle.cd_check.proofs.BodiesDone.{Done, there, is_sound, one_done, all_done, is_sited, matched_below, none_done}
 use Rattle.cd_check.proofs.BodiesDone.{all_done_least, one_failed}
 use Rattle.cd_check.proofs.BodyTaken.{taken_known, taken_fails, beyond_fails}
@@ -134,7 +134,7 @@ use Rattle.std.proofs.Common.{None, get_or, inl, inr, subst, List, sym, map, ref
 use Rattle.std.proofs.Common.{Option, Vec, Global, append-nil, not, Some, drop, length, take, ◌<◌, ◌++◌, [], lit<}
 use Rattle.std.proofs.Common.{true, rules, suc, ◌+◌}
 use Rattle.std.proofs.lemmas.List.{length-drop, take_all, length-map, drop_all}
-use Rattle.std.proofs.lemmas.Result.{IfOk-weaker, on_ok_weaker, IfErr-weaker, err_from_is_err_and}
+use Rattle.std.proofs.lemmas.Result.{IfOk-weaker, IfErr-weaker, err_from_is_err_and}
 use Rattle.std.specs.Slice.{IsItemAt}
 use Rattle.cd_check.proofs.+check.Goals.{bodies::check_bodies-in_default, bodies::check_bodies-in-Some-2+in_ok-add}
 use Rattle.cd_check.proofs.+check.Goals.{operands::check_items-in-Some+in_ok-add, operands::check_items-in_default}
@@ -144,13 +144,11 @@ pub test::check_if-returns-clause-after : goal.test::check_if-returns-clause-aft
 test::check_if-returns-clause-after t c =
     let base = c.args.base.now in
     let locals = c.args.locals.now in
-    let old = graph_of c.args.world.now in
-    let first = after_same base locals old (graph_of c.check.new.world) (graph_of c.need_at.new.world) c.in_ok-tested.ensures.after
-    c.need_at.ensures.graph in
-    let second = after_both base locals old (graph_of c.need_at.new.world) (graph_of c.check_side.new.world) first c.in_ok-one.ensures.after in
-    let third = after_both base locals old (graph_of c.check_side.new.world) (graph_of c.check_side-2.new.world) second
-    c.in_ok-other.ensures.after in
-    after_grown base locals old c.check_side-2.new.world c.either.new.world third c.either.ensures.grows c.either.ensures.sound
+    let first = after_same base locals c.args.world.now c.check.new.world c.need_at.new.world c.in_ok-tested.ensures.after c.need_at.ensures.graph
+    c.need_at.ensures.grows in
+    let second = after_both base locals c.args.world.now c.need_at.new.world c.check_side.new.world first c.in_ok-one.ensures.after in
+    let third = after_both base locals c.args.world.now c.check_side.new.world c.check_side-2.new.world second c.in_ok-other.ensures.after in
+    after_grown base locals c.args.world.now c.check_side-2.new.world c.either.new.world third c.either.ensures.grows c.either.ensures.sound
 
 pub test::check_if-returns-clause-gives : goal.test::check_if-returns-clause-gives
 test::check_if-returns-clause-gives t c =
@@ -159,12 +157,12 @@ test::check_if-returns-clause-gives t c =
     let old = graph_of c.args.world.now in
     let nodes = seen_by base locals in
     let tested = c.in_ok-tested.tested in
-    let first = after_same base locals old (graph_of c.check.new.world) (graph_of c.need_at.new.world) c.in_ok-tested.ensures.after
-    c.need_at.ensures.graph in
-    let second = after_both base locals old (graph_of c.need_at.new.world) (graph_of c.check_side.new.world) first c.in_ok-one.ensures.after in
-    let third = after_both base locals old (graph_of c.check_side.new.world) (graph_of c.check_side-2.new.world) second
-    c.in_ok-other.ensures.after in
-    let last = after_grown base locals old c.check_side-2.new.world c.either.new.world third c.either.ensures.grows c.either.ensures.sound in
+    let first = after_same base locals c.args.world.now c.check.new.world c.need_at.new.world c.in_ok-tested.ensures.after c.need_at.ensures.graph
+    c.need_at.ensures.grows in
+    let second = after_both base locals c.args.world.now c.need_at.new.world c.check_side.new.world first c.in_ok-one.ensures.after in
+    let third = after_both base locals c.args.world.now c.check_side.new.world c.check_side-2.new.world second c.in_ok-other.ensures.after in
+    let last = after_grown base locals c.args.world.now c.check_side-2.new.world c.either.new.world third c.either.ensures.grows
+    c.either.ensures.sound in
     let condition = c.in_ok-tested.ensures.after.ready in
     if_gives (scope_of base) nodes old c.requires.ready.sound c.requires.ready.nodes (plain c.args.condition.now) tested
     (graph_of c.need_at.new.world) first.later
@@ -187,11 +185,12 @@ pub test::check_short-returns-clause-after : goal.test::check_short-returns-clau
 test::check_short-returns-clause-after t c =
     let base = c.args.base.now in
     let locals = c.args.locals.now in
-    let old = graph_of c.args.world.now in
-    let first = after_same base locals old old (graph_of c.need_at.new.world) (after_none base locals old c.requires.ready) c.need_at.ensures.graph in
-    let second = after_both base locals old (graph_of c.need_at.new.world) (graph_of c.check_side.new.world) first c.in_ok-long.ensures.after in
-    let third = after_same base locals old (graph_of c.check_side.new.world) (graph_of c.short_side.new.world) second c.short_side.ensures.graph in
-    after_grown base locals old c.short_side.new.world c.either.new.world third c.either.ensures.grows c.either.ensures.sound
+    let first = after_same base locals c.args.world.now c.args.world.now c.need_at.new.world
+    (after_none base locals c.args.world.now c.requires.ready) c.need_at.ensures.graph c.need_at.ensures.grows in
+    let second = after_both base locals c.args.world.now c.need_at.new.world c.check_side.new.world first c.in_ok-long.ensures.after in
+    let third = after_same base locals c.args.world.now c.check_side.new.world c.short_side.new.world second c.short_side.ensures.graph
+    c.short_side.ensures.grows in
+    after_grown base locals c.args.world.now c.short_side.new.world c.either.new.world third c.either.ensures.grows c.either.ensures.sound
 
 pub test::check_short-returns-clause-gives : goal.test::check_short-returns-clause-gives
 test::check_short-returns-clause-gives t c =
@@ -202,10 +201,13 @@ test::check_short-returns-clause-gives t c =
     let tested = c.args.first in
     let met = c.args.met in
     let e = plain c.args.expr.now in
-    let after = after_same base locals old old (graph_of c.need_at.new.world) (after_none base locals old c.requires.ready) c.need_at.ensures.graph in
-    let second = after_both base locals old (graph_of c.need_at.new.world) (graph_of c.check_side.new.world) after c.in_ok-long.ensures.after in
-    let third = after_same base locals old (graph_of c.check_side.new.world) (graph_of c.short_side.new.world) second c.short_side.ensures.graph in
-    let last = after_grown base locals old c.short_side.new.world c.either.new.world third c.either.ensures.grows c.either.ensures.sound in
+    let after = after_same base locals c.args.world.now c.args.world.now c.need_at.new.world
+    (after_none base locals c.args.world.now c.requires.ready) c.need_at.ensures.graph c.need_at.ensures.grows in
+    let second = after_both base locals c.args.world.now c.need_at.new.world c.check_side.new.world after c.in_ok-long.ensures.after in
+    let third = after_same base locals c.args.world.now c.check_side.new.world c.short_side.new.world second c.short_side.ensures.graph
+    c.short_side.ensures.grows in
+    let last = after_grown base locals c.args.world.now c.short_side.new.world c.either.new.world third c.either.ensures.grows
+    c.either.ensures.sound in
     let result = c.in_ok-either.field-0 in
     let ready = c.requires.ready in
     let side : Side (scope_of base) nodes old (elements_of old tested) met e (graph_of c.check_side.new.world) c.in_ok-long.long =
@@ -230,13 +232,13 @@ test::check_side-returns-clause-gives t c = λ may. let value = truth c.args.val
     (truth_held c.args.base.now (graph_of c.args.world.now) c.args.locals.now c.requires.ready c.args.value value (is_truth c.args.value) refl))
 
 pub expr::check_call-returns-in-Ok-clause-after : goal.expr::check_call-returns-in-Ok-clause-after
-expr::check_call-returns-in-Ok-clause-after t c = after_grown c.args.base.now c.args.locals.now (graph_of c.args.world.now) c.check.new.world c.call.new.world
+expr::check_call-returns-in-Ok-clause-after t c = after_grown c.args.base.now c.args.locals.now c.args.world.now c.check.new.world c.call.new.world
     c.in_ok-id.ensures.after c.call.ensures.grows c.call.ensures.sound
 
 pub expr::check_call-returns-in-Ok-clause-gives : goal.expr::check_call-returns-in-Ok-clause-gives
 expr::check_call-returns-in-Ok-clause-gives t c =
-    let after = after_grown c.args.base.now c.args.locals.now (graph_of c.args.world.now) c.check.new.world c.call.new.world
-    c.in_ok-id.ensures.after c.call.ensures.grows c.call.ensures.sound in record {
+    let after = after_grown c.args.base.now c.args.locals.now c.args.world.now c.check.new.world c.call.new.world c.in_ok-id.ensures.after
+    c.call.ensures.grows c.call.ensures.sound in record {
       is_type = type_in c.args.base.now (graph_of c.call.new.world) c.args.locals.now after.ready c.in-Ok.result c.in-Ok.ensures.node;
       has = λ types of. (
         typ (graph_of c.check.new.world) c.in_ok-id.id,
@@ -263,8 +265,8 @@ expr::check_call-returns-in-Err-clause-fault t c =
     (sym (place_is c.args.operand.now)) c.in-Err.stop c.in-Err.ensures.misfit))
 
 pub operands::check_tuple-returns-clause-after : goal.operands::check_tuple-returns-clause-after
-operands::check_tuple-returns-clause-after t c = after_grown c.args.base.now c.args.locals.now (graph_of c.args.world.now) c.check_exprs.new.world c.tuple.new.world
-    c.in_ok-parts.ensures.after c.in_ok-tuple.ensures.grows c.in_ok-tuple.ensures.sound
+operands::check_tuple-returns-clause-after t c = after_grown c.args.base.now c.args.locals.now c.args.world.now c.check_exprs.new.world
+    c.tuple.new.world c.in_ok-parts.ensures.after c.in_ok-tuple.ensures.grows c.in_ok-tuple.ensures.sound
 
 pub operands::check_tuple-returns-clause-gives : goal.operands::check_tuple-returns-clause-gives
 operands::check_tuple-returns-clause-gives t c =
@@ -273,8 +275,8 @@ operands::check_tuple-returns-clause-gives t c =
     let made = graph_of c.tuple.new.world in
     let id = c.in_ok-tuple.field-0 in
     let parts = graph_of c.check_exprs.new.world in
-    let ready = (after_grown base locals (graph_of c.args.world.now) c.check_exprs.new.world c.tuple.new.world
-    c.in_ok-parts.ensures.after c.in_ok-tuple.ensures.grows c.in_ok-tuple.ensures.sound).ready in record {
+    let ready = (after_grown base locals c.args.world.now c.check_exprs.new.world c.tuple.new.world c.in_ok-parts.ensures.after
+    c.in_ok-tuple.ensures.grows c.in_ok-tuple.ensures.sound).ready in record {
       is_type = type_in base made locals ready id c.in_ok-tuple.ensures.node;
       has = λ types of. (
         map (typ parts) c.in_ok-parts.parts.items,
@@ -291,7 +293,7 @@ operands::check_exprs-loop-expr-init t c =
     let old = graph_of c.args.world.now in
     let nodes = seen_by base locals in
     let all = plain_exprs c.args.exprs.now in (
-      after_none base locals old c.requires.ready,
+      after_none base locals c.args.world.now c.requires.ready,
       subst (λ (left : Exprs). GoesOn (HaveAll (scope_of base)) old nodes old all left c.new-parts.result.items) (sym c.items-expr-items.ensures)
           (subst (λ (ids : List NodeId). GoesOn (HaveAll (scope_of base)) old nodes old all all ids) (sym c.new-parts.ensures.items)
           (starts_on (HaveAll (scope_of base)) old nodes all)),
@@ -315,7 +317,7 @@ operands::check_exprs-loop-expr-preserved t c =
     let index = c.loop-expr.expr-index in
     let before = c.loop-expr.invariant in
     let step = c.in_ok-id.ensures in (
-      after_both base locals old now new before.0 step.after,
+      after_both base locals c.args.world.now c.loop-expr.world c.check.new.world before.0 step.after,
       subst (λ (ids : List NodeId). GoesOn (HaveAll (scope_of base)) old nodes new all (exprs_of (map plain (drop (index + 1) items))) ids)
           (sym c.in_ok-add.ensures)
           (one_expr (scope_of base) old c.requires.ready.sound nodes c.requires.ready.nodes now new before.0.later step.after.later
@@ -346,8 +348,8 @@ pub operands::check_exprs-returns-clause-after : goal.operands::check_exprs-retu
 operands::check_exprs-returns-clause-after t c = c.loop-expr.invariant.0
 
 pub operands::check_sequence-returns-clause-after : goal.operands::check_sequence-returns-clause-after
-operands::check_sequence-returns-clause-after t c = after_grown c.args.base.now c.args.locals.now (graph_of c.args.world.now) c.check_items.new.world c.sequence.new.world
-    c.in_ok-parts.ensures.after c.in_ok-sequence.ensures.grows c.in_ok-sequence.ensures.sound
+operands::check_sequence-returns-clause-after t c = after_grown c.args.base.now c.args.locals.now c.args.world.now c.check_items.new.world
+    c.sequence.new.world c.in_ok-parts.ensures.after c.in_ok-sequence.ensures.grows c.in_ok-sequence.ensures.sound
 
 pub operands::check_sequence-returns-clause-gives : goal.operands::check_sequence-returns-clause-gives
 operands::check_sequence-returns-clause-gives t c =
@@ -356,8 +358,8 @@ operands::check_sequence-returns-clause-gives t c =
     let made = graph_of c.sequence.new.world in
     let id = c.in_ok-sequence.field-0 in
     let types_of_parts = map (typ (graph_of c.check_items.new.world)) c.in_ok-parts.parts.items in
-    let ready = (after_grown base locals (graph_of c.args.world.now) c.check_items.new.world c.sequence.new.world
-    c.in_ok-parts.ensures.after c.in_ok-sequence.ensures.grows c.in_ok-sequence.ensures.sound).ready in record {
+    let ready = (after_grown base locals c.args.world.now c.check_items.new.world c.sequence.new.world c.in_ok-parts.ensures.after
+    c.in_ok-sequence.ensures.grows c.in_ok-sequence.ensures.sound).ready in record {
       is_type = type_in base made locals ready id c.in_ok-sequence.ensures.node;
       has = λ types of. (
         types_of_parts,
@@ -373,7 +375,7 @@ operands::check_items-loop-item-init t c =
     let old = graph_of c.args.world.now in
     let nodes = seen_by base locals in
     let all = plain_items c.args.items.now in (
-      after_none base locals old c.requires.ready,
+      after_none base locals c.args.world.now c.requires.ready,
       subst (λ (left : Items). GoesOn (ItemsHave (scope_of base)) old nodes old all left c.new-parts.result.items) (sym c.items-item-items.ensures)
           (subst (λ (ids : List NodeId). GoesOn (ItemsHave (scope_of base)) old nodes old all all ids) (sym c.new-parts.ensures.items)
           (starts_on (ItemsHave (scope_of base)) old nodes all)),
@@ -405,7 +407,7 @@ operands::check_items-loop-item-preserved t c =
       | operands::check_items-in_default w ↦ ap (λ (parts : Vec NodeId Global). parts.items) w.parts-is ∙ sym (append-nil done)
           ∙ ap (λ (one : Option NodeId). done ++ listed one) (sym w.in_default.is)
     ] in (
-      after_both base locals old now new before.0 step.after,
+      after_both base locals c.args.world.now c.loop-item.world c.check_item.new.world before.0 step.after,
       subst (λ (ids : List NodeId). GoesOn (ItemsHave (scope_of base)) old nodes new all (items_of (map plain_item (drop (index + 1) items))) ids)
           (sym same)
           (one_item (scope_of base) old c.requires.ready.sound nodes c.requires.ready.nodes now new before.0.later step.after.later
@@ -454,7 +456,6 @@ operands::check_item-returns-in_ok-need_at-in-Splice-clause-gives t c =
     let nodes = seen_by c.args.base.now c.args.locals.now in
     let old = graph_of c.args.world.now in
     let middle = graph_of c.check-in-Splice.new.world in
-    let new = graph_of c.need_at.new.world in
     let id = c.in_ok-id-in-Splice.id in
     let step = c.in_ok-id-in-Splice.ensures in
     let e = plain c.deref-in-Splice.result.now in
@@ -491,8 +492,8 @@ operands::check_record-record-requires-clause-count t c =
     ∙ length-map items plain_field
 
 pub operands::check_record-returns-clause-after : goal.operands::check_record-returns-clause-after
-operands::check_record-returns-clause-after t c = after_grown c.args.base.now c.args.locals.now (graph_of c.args.world.now) c.check_fields.new.world c.record.new.world
-    c.in_ok-parts.ensures.after c.in_ok-record.ensures.grows c.in_ok-record.ensures.sound
+operands::check_record-returns-clause-after t c = after_grown c.args.base.now c.args.locals.now c.args.world.now c.check_fields.new.world
+    c.record.new.world c.in_ok-parts.ensures.after c.in_ok-record.ensures.grows c.in_ok-record.ensures.sound
 
 pub operands::check_record-returns-clause-gives : goal.operands::check_record-returns-clause-gives
 operands::check_record-returns-clause-gives t c =
@@ -502,8 +503,8 @@ operands::check_record-returns-clause-gives t c =
     let id = c.in_ok-record.field-0 in
     let parts = graph_of c.check_fields.new.world in
     let ids = c.in_ok-parts.parts.items in
-    let ready = (after_grown base locals (graph_of c.args.world.now) c.check_fields.new.world c.record.new.world
-    c.in_ok-parts.ensures.after c.in_ok-record.ensures.grows c.in_ok-record.ensures.sound).ready in record {
+    let ready = (after_grown base locals c.args.world.now c.check_fields.new.world c.record.new.world c.in_ok-parts.ensures.after
+    c.in_ok-record.ensures.grows c.in_ok-record.ensures.sound).ready in record {
       is_type = type_in base made locals ready id c.in_ok-record.ensures.node;
       has = λ types of. (
         map (typ parts) ids,
@@ -521,7 +522,7 @@ operands::check_fields-loop-field-init t c =
     let old = graph_of c.args.world.now in
     let nodes = seen_by base locals in
     let all = plain_fields c.args.fields.now in (
-      after_none base locals old c.requires.ready,
+      after_none base locals c.args.world.now c.requires.ready,
       subst (λ (left : Fields). GoesOn (FieldsHave (scope_of base)) old nodes old all left c.new-parts.result.items) (sym c.items-field-items.ensures)
           (subst (λ (ids : List NodeId). GoesOn (FieldsHave (scope_of base)) old nodes old all all ids) (sym c.new-parts.ensures.items)
           (starts_on (FieldsHave (scope_of base)) old nodes all)),
@@ -546,7 +547,7 @@ operands::check_fields-loop-field-preserved t c =
     let index = c.loop-field.field-index in
     let before = c.loop-field.invariant in
     let step = c.in_ok-id.ensures in (
-      after_both base locals old now new before.0 step.after,
+      after_both base locals c.args.world.now c.loop-field.world c.check.new.world before.0 step.after,
       subst (λ (ids : List NodeId). GoesOn (FieldsHave (scope_of base)) old nodes new all (fields_of (map plain_field (drop (index + 1) items))) ids)
           (sym c.in_ok-add.ensures)
           (one_field (scope_of base) old c.requires.ready.sound nodes c.requires.ready.nodes now new before.0.later step.after.later
@@ -584,21 +585,13 @@ pub operands::check_xml-returns-clause-after : goal.operands::check_xml-returns-
 operands::check_xml-returns-clause-after t c =
     let base = c.args.base.now in
     let locals = c.args.locals.now in
-    let old = graph_of c.args.world.now in
-    let first = graph_of c.check.new.world in
-    let second = graph_of c.check-2.new.world in
-    let third = graph_of c.check-3.new.world in
-    let fourth = graph_of c.need_at.new.world in
-    let fifth = graph_of c.need_at-2.new.world in
-    after_grown base locals old c.need_at-2.new.world c.xml.new.world
-    (after_same base locals old fourth fifth
-    (after_same base locals old third fourth
-    (after_both base locals old second third
-    (after_both base locals old first second c.in_ok-first.ensures.after c.in_ok-second.ensures.after)
-    c.in_ok-third.ensures.after)
-    c.in_ok-need_at.ensures.graph)
-    c.in_ok-need_at-2.ensures.graph)
-    c.in_ok-xml.ensures.grows c.in_ok-xml.ensures.sound
+    after_grown base locals c.args.world.now c.need_at-2.new.world c.xml.new.world
+    (after_same base locals c.args.world.now c.need_at.new.world c.need_at-2.new.world
+    (after_same base locals c.args.world.now c.check-3.new.world c.need_at.new.world
+    (after_both base locals c.args.world.now c.check-2.new.world c.check-3.new.world
+    (after_both base locals c.args.world.now c.check.new.world c.check-2.new.world c.in_ok-first.ensures.after c.in_ok-second.ensures.after)
+    c.in_ok-third.ensures.after) c.in_ok-need_at.ensures.graph c.in_ok-need_at.ensures.grows) c.in_ok-need_at-2.ensures.graph
+    c.in_ok-need_at-2.ensures.grows) c.in_ok-xml.ensures.grows c.in_ok-xml.ensures.sound
 
 pub operands::check_xml-returns-clause-gives : goal.operands::check_xml-returns-clause-gives
 operands::check_xml-returns-clause-gives t c =
@@ -616,9 +609,11 @@ operands::check_xml-returns-clause-gives t c =
     let ready = c.in_ok-third.ensures.after.ready in
     let same = c.in_ok-need_at.ensures.graph in
     let both_same = c.in_ok-need_at-2.ensures.graph ∙ same in
-    let new = (after_grown base locals third c.need_at-2.new.world c.xml.new.world
-    (after_same base locals third third (graph_of c.need_at-2.new.world) (after_none base locals third ready) both_same)
-    c.in_ok-xml.ensures.grows c.in_ok-xml.ensures.sound).ready in
+    let new = (after_grown base locals c.check-3.new.world c.need_at-2.new.world c.xml.new.world
+    (after_same base locals c.check-3.new.world c.need_at.new.world c.need_at-2.new.world
+    (after_same base locals c.check-3.new.world c.check-3.new.world c.need_at.new.world (after_none base locals c.check-3.new.world ready) same
+    c.in_ok-need_at.ensures.grows) c.in_ok-need_at-2.ensures.graph c.in_ok-need_at-2.ensures.grows) c.in_ok-xml.ensures.grows
+    c.in_ok-xml.ensures.sound).ready in
     xml_gives (scope_of base) (seen_by base locals) old first second third last c.requires.ready.sound c.requires.ready.nodes
     c.in_ok-first.ensures.after.later c.in_ok-second.ensures.after.later c.in_ok-third.ensures.after.later
     (plain c.args.tag.now) (plain c.args.attributes.now) (plain c.args.content.now) tag attributes content made
@@ -644,9 +639,8 @@ pub expr::check_kind-returns-in_ok-constant_node-in-Constant-clause-after : goal
 expr::check_kind-returns-in_ok-constant_node-in-Constant-clause-after t c =
     let base = c.args.base.now in
     let locals = c.args.locals.now in
-    let old = graph_of c.args.world.now in
     let step = c.in_ok-constant_node-in-Constant.ensures in
-    after_grown base locals old c.args.world.now c.constant_node.new.world (after_none base locals old c.requires.ready) step.grows step.sound
+    after_start base locals c.args.world.now c.constant_node.new.world c.requires.ready step.grows step.sound
 
 pub expr::check_kind-returns-in_ok-constant_node-in-Constant-clause-gives : goal.expr::check_kind-returns-in_ok-constant_node-in-Constant-clause-gives
 expr::check_kind-returns-in_ok-constant_node-in-Constant-clause-gives t c =
@@ -656,8 +650,7 @@ expr::check_kind-returns-in_ok-constant_node-in-Constant-clause-gives t c =
     let new = graph_of c.constant_node.new.world in
     let id = c.in_ok-constant_node-in-Constant.field-0 in
     let step = c.in_ok-constant_node-in-Constant.ensures in
-    let ready = (after_grown base locals old c.args.world.now c.constant_node.new.world (after_none base locals old c.requires.ready)
-    step.grows step.sound).ready in
+    let ready = (after_start base locals c.args.world.now c.constant_node.new.world c.requires.ready step.grows step.sound).ready in
     subst (λ (kind : Kind). Gives old (seen_by base locals) new (λ types t. KindHas (scope_of base) types kind t) id)
     (sym (ap plain_kind c.in-Constant.is ∙ kind_constant c.in-Constant.is'))
     (record { is_type = type_in base new locals ready id step.node; has = λ types of. step.has })
@@ -711,7 +704,7 @@ chain::check_arguments-loop-argument-init t c =
     let base = c.args.base.now in
     let locals = c.args.locals.now in
     let old = graph_of c.args.world.now in (
-      after_none base locals old c.requires.ready,
+      after_none base locals c.args.world.now c.requires.ready,
       record { is_type = type_in base old locals c.requires.ready c.args.function c.requires.function; leads = λ types of t has. has },
       narrows_first (ArgumentsHave (scope_of base)) (seen_by base locals) old (exprs_of (map plain c.args.arguments.now)) c.args.function,
       λ f stands. faults_first (scope_of base) (seen_by base locals) old c.requires.ready.sound c.requires.ready.nodes
@@ -729,7 +722,7 @@ chain::check_arguments-loop-argument-preserved t c =
     let before = c.loop-argument.invariant in
     let step = c.in_ok-id.ensures in
     let items = c.args.arguments.now in (
-      after_both base locals old now new before.0 step.after,
+      after_both base locals c.args.world.now c.loop-argument.world c.check_argument.new.world before.0 step.after,
       one_argument (scope_of base) old c.requires.ready.sound (seen_by base locals) c.requires.ready.nodes now new before.0.later
           step.after.later (typ old c.args.function) c.loop-argument.id c.in_ok-id.id (exprs_of (map plain items)) items
           c.loop-argument.argument-index c.argument-item.result c.argument-item.is c.loop-argument-test.true before.1 step.gives,
@@ -759,7 +752,7 @@ pub chain::check_arguments-returns-clause-after : goal.chain::check_arguments-re
 chain::check_arguments-returns-clause-after t c = c.loop-argument.invariant.0
 
 pub chain::check_argument-returns-in-Results-clause-after : goal.chain::check_argument-returns-in-Results-clause-after
-chain::check_argument-returns-in-Results-clause-after t c = after_grown c.args.base.now c.args.locals.now (graph_of c.args.world.now) c.check.new.world
+chain::check_argument-returns-in-Results-clause-after t c = after_grown c.args.base.now c.args.locals.now c.args.world.now c.check.new.world
     c.apply.new.world c.in_ok-id.ensures.after c.in_ok-results.ensures.grows c.in_ok-results.ensures.sound
 
 pub chain::check_argument-returns-in-Results-clause-gives : goal.chain::check_argument-returns-in-Results-clause-gives
@@ -772,7 +765,7 @@ chain::check_argument-returns-in-Results-clause-gives t c =
     let id = c.in_ok-id.id in
     let results = c.in-Results.results in
     let step = c.in_ok-id.ensures in
-    let ready = (after_grown base locals old c.check.new.world c.apply.new.world step.after c.in_ok-results.ensures.grows
+    let ready = (after_grown base locals c.args.world.now c.check.new.world c.apply.new.world step.after c.in_ok-results.ensures.grows
     c.in_ok-results.ensures.sound).ready in
     argument_follows (scope_of base) old (seen_by base locals) c.requires.ready.sound c.args.function c.requires.function middle
     step.after.later new (plain c.args.argument.now) id step.gives results
@@ -799,15 +792,8 @@ chain::check_chain-returns-clause-gives t c =
     c.check_tails.ensures.gives
 
 pub chain::check_chain-returns-clause-after : goal.chain::check_chain-returns-clause-after
-chain::check_chain-returns-clause-after t c =
-    let base = c.args.base.now in
-    let locals = c.args.locals.now in
-    let old = graph_of c.args.world.now in
-    let first = graph_of c.check.new.world in
-    let new = graph_of c.check_tails.new.world in
-    on_ok_weaker c.check_tails.result
-    (λ (later : IsAfter base locals first new). after_both base locals old first new c.in_ok-id.ensures.after later)
-    c.check_tails.ensures.after
+chain::check_chain-returns-clause-after t c = after_both c.args.base.now c.args.locals.now c.args.world.now c.check.new.world c.check_tails.new.world
+    c.in_ok-id.ensures.after c.check_tails.ensures.after
 
 pub chain::check_tails-loop-tail-init : goal.chain::check_tails-loop-tail-init
 chain::check_tails-loop-tail-init t c =
@@ -815,7 +801,7 @@ chain::check_tails-loop-tail-init t c =
     let locals = c.args.locals.now in
     let old = graph_of c.args.world.now in
     let all = plain_tails c.args.tails.now in (
-      after_none base locals old c.requires.ready,
+      after_none base locals c.args.world.now c.requires.ready,
       subst (λ (left : Tails). LeadsOn (TailsHave (scope_of base)) old (seen_by base locals) (typ old c.args.first) old all left c.args.first)
           (sym c.items-tail-items.ensures)
           (record { is_type = type_in base old locals c.requires.ready c.args.first c.requires.first; leads = λ types of t has. has }),
@@ -838,7 +824,7 @@ chain::check_tails-loop-tail-preserved t c =
     let before = c.loop-tail.invariant in
     let step = c.in_ok-id.ensures in
     let id = c.in_ok-id.id in (
-      after_both base locals old now new before.0 step.after,
+      after_both base locals c.args.world.now c.loop-tail.world c.check_tail.new.world before.0 step.after,
       one_tail (scope_of base) old c.requires.ready.sound nodes c.requires.ready.nodes now new before.0.later step.after.later
           (typ old c.args.first) c.loop-tail.id id (plain_tails c.args.tails.now) c.items-tail-items.result.now c.loop-tail.tail-index
           c.tail-item.result c.tail-item.is c.loop-tail-test.true before.1
@@ -872,9 +858,7 @@ pub chain::check_tail-returns-in-Ok-clause-after : goal.chain::check_tail-return
 chain::check_tail-returns-in-Ok-clause-after t c =
     let base = c.args.base.now in
     let locals = c.args.locals.now in
-    let old = graph_of c.args.world.now in
-    after_grown base locals old c.args.world.now c.drop_field.new.world (after_none base locals old c.requires.ready)
-    c.in-Ok.ensures.grows c.in-Ok.ensures.sound
+    after_start base locals c.args.world.now c.drop_field.new.world c.requires.ready c.in-Ok.ensures.grows c.in-Ok.ensures.sound
 
 pub chain::check_tail-returns-in-Ok-clause-gives : goal.chain::check_tail-returns-in-Ok-clause-gives
 chain::check_tail-returns-in-Ok-clause-gives t c =
@@ -884,8 +868,7 @@ chain::check_tail-returns-in-Ok-clause-gives t c =
     let new = graph_of c.drop_field.new.world in
     let id = c.in-Ok.id in
     let is = c.in-Ok.ensures in
-    let ready = (after_grown base locals old c.args.world.now c.drop_field.new.world (after_none base locals old c.requires.ready)
-    is.grows is.sound).ready in
+    let ready = (after_start base locals c.args.world.now c.drop_field.new.world c.requires.ready is.grows is.sound).ready in
     subst (λ (tail : Tail). Gives old (seen_by base locals) new (λ types t. TailHas (scope_of base) types (typ old c.args.first) tail t) id)
     (sym (ap plain_tail c.in-Without.is ∙ tail_without c.in-Without.label))
     (record { is_type = type_in base new locals ready id is.node; has = λ types of. (is.records, is.gives) })
@@ -907,9 +890,7 @@ pub chain::check_tail-returns-in-Ok-take_field-clause-after : goal.chain::check_
 chain::check_tail-returns-in-Ok-take_field-clause-after t c =
     let base = c.args.base.now in
     let locals = c.args.locals.now in
-    let old = graph_of c.args.world.now in
-    after_grown base locals old c.args.world.now c.take_field.new.world (after_none base locals old c.requires.ready)
-    c.in-Ok-take_field.ensures.grows c.in-Ok-take_field.ensures.sound
+    after_start base locals c.args.world.now c.take_field.new.world c.requires.ready c.in-Ok-take_field.ensures.grows c.in-Ok-take_field.ensures.sound
 
 pub chain::check_tail-returns-in-Ok-take_field-clause-gives : goal.chain::check_tail-returns-in-Ok-take_field-clause-gives
 chain::check_tail-returns-in-Ok-take_field-clause-gives t c =
@@ -919,8 +900,7 @@ chain::check_tail-returns-in-Ok-take_field-clause-gives t c =
     let new = graph_of c.take_field.new.world in
     let id = c.in-Ok-take_field.id in
     let is = c.in-Ok-take_field.ensures in
-    let ready = (after_grown base locals old c.args.world.now c.take_field.new.world (after_none base locals old c.requires.ready)
-    is.grows is.sound).ready in
+    let ready = (after_start base locals c.args.world.now c.take_field.new.world c.requires.ready is.grows is.sound).ready in
     subst (λ (tail : Tail). Gives old (seen_by base locals) new (λ types t. TailHas (scope_of base) types (typ old c.args.first) tail t) id)
     (sym (ap plain_tail c.in-Select.is ∙ tail_select c.in-Select.label))
     (record { is_type = type_in base new locals ready id is.node; has = λ types of. (is.have, is.gives) })
@@ -939,7 +919,7 @@ chain::check_tail-returns-in-Err-take_field-clause-fault t c =
     (HasFieldAt c.in-Select.label) rule.Field stop c.in-Err-take_field.ensures.misfit))
 
 pub chain::check_operand-returns-in-Ok-clause-after : goal.chain::check_operand-returns-in-Ok-clause-after
-chain::check_operand-returns-in-Ok-clause-after t c = after_grown c.args.base.now c.args.locals.now (graph_of c.args.world.now) c.check.new.world
+chain::check_operand-returns-in-Ok-clause-after t c = after_grown c.args.base.now c.args.locals.now c.args.world.now c.check.new.world
     c.operate.new.world c.in_ok-second.ensures.after c.operate.ensures.grows c.operate.ensures.sound
 
 pub chain::check_operand-returns-in-Ok-clause-gives : goal.chain::check_operand-returns-in-Ok-clause-gives
@@ -950,7 +930,7 @@ chain::check_operand-returns-in-Ok-clause-gives t c =
     let middle = graph_of c.check.new.world in
     let new = graph_of c.operate.new.world in
     let step = c.in_ok-second.ensures in
-    let ready = (after_grown base locals old c.check.new.world c.operate.new.world step.after c.operate.ensures.grows
+    let ready = (after_grown base locals c.args.world.now c.check.new.world c.operate.new.world step.after c.operate.ensures.grows
     c.operate.ensures.sound).ready in
     operand_gives (scope_of base) old (seen_by base locals) c.requires.ready.sound c.args.first c.requires.first middle step.after.later new
     (plain c.args.expr.now) c.in_ok-second.second step.gives c.args.op c.requires.met c.in-Ok.id
@@ -974,10 +954,9 @@ chain::check_operand-returns-in-Err-clause-fault t c =
     (sym stands.1) (sym (place_is c.args.expr.now)) c.args.op c.requires.met c.in-Err.stop c.in-Err.ensures.misfit)
 
 pub branches::check_match-returns-clause-after : goal.branches::check_match-returns-clause-after
-branches::check_match-returns-clause-after t c = on_ok_weaker c.check_covering.result
-    (λ after. after_both c.args.base.now c.args.locals.now (graph_of c.args.world.now) (graph_of c.check.new.world)
-    (graph_of c.check_covering.new.world)
-    c.in_ok-matched.ensures.after after) c.check_covering.ensures.after
+branches::check_match-returns-clause-after t c = after_both c.args.base.now c.args.locals.now c.args.world.now c.check.new.world
+    c.check_covering.new.world
+    c.in_ok-matched.ensures.after c.check_covering.ensures.after
 
 pub branches::check_match-returns-clause-gives : goal.branches::check_match-returns-clause-gives
 branches::check_match-returns-clause-gives t c = IfOk-weaker c.check_covering.result _ _
@@ -1005,13 +984,10 @@ branches::check_covering-union-requires t c = subst (λ (ids : List NodeId). All
     c.in_ok-results.ensures.gives.are_nodes
 
 pub branches::check_covering-returns-clause-after : goal.branches::check_covering-returns-clause-after
-branches::check_covering-returns-clause-after t c = (after_grown c.args.base.now c.args.locals.now (graph_of c.args.world.now) c.check_bodies.new.world
-    c.union.new.world
-    (after_both c.args.base.now c.args.locals.now (graph_of c.args.world.now) (graph_of c.cover.new.world)
-    (graph_of c.check_bodies.new.world)
-    (after_step c.args.base.now c.args.locals.now c.args.world.now c.divide.new.world c.requires.ready c.divide.ensures.grows c.divide.ensures.sound
-    (graph_of c.cover.new.world) c.cover.ensures.graph) c.in_ok-results.ensures.after)
-    c.union.ensures.grows c.union.ensures.sound)
+branches::check_covering-returns-clause-after t c = (after_grown c.args.base.now c.args.locals.now c.args.world.now c.check_bodies.new.world
+    c.union.new.world (after_both c.args.base.now c.args.locals.now c.args.world.now c.cover.new.world c.check_bodies.new.world
+    (after_step c.args.base.now c.args.locals.now c.args.world.now c.divide.new.world c.cover.new.world c.requires.ready c.divide.ensures.grows
+    c.divide.ensures.sound c.cover.ensures.graph c.cover.ensures.grows) c.in_ok-results.ensures.after) c.union.ensures.grows c.union.ensures.sound)
 
 pub branches::check_covering-returns-clause-gives : goal.branches::check_covering-returns-clause-gives
 branches::check_covering-returns-clause-gives t c =
@@ -1036,12 +1012,11 @@ branches::check_covering-returns-clause-gives t c =
     c.in_ok-results.ensures.gives)
     (graph_of c.union.new.world) c.in_ok-union.field-0
     (type_in c.args.base.now (graph_of c.union.new.world) c.args.locals.now
-    (after_grown c.args.base.now c.args.locals.now (graph_of c.args.world.now) c.check_bodies.new.world c.union.new.world
-    (after_both c.args.base.now c.args.locals.now (graph_of c.args.world.now) (graph_of c.cover.new.world)
-    (graph_of c.check_bodies.new.world)
-    (after_step c.args.base.now c.args.locals.now c.args.world.now c.divide.new.world c.requires.ready c.divide.ensures.grows c.divide.ensures.sound
-    (graph_of c.cover.new.world) c.cover.ensures.graph) c.in_ok-results.ensures.after)
-    c.union.ensures.grows c.union.ensures.sound).ready
+    (after_grown c.args.base.now c.args.locals.now c.args.world.now c.check_bodies.new.world c.union.new.world
+    (after_both c.args.base.now c.args.locals.now c.args.world.now c.cover.new.world c.check_bodies.new.world
+    (after_step c.args.base.now c.args.locals.now c.args.world.now c.divide.new.world c.cover.new.world c.requires.ready c.divide.ensures.grows
+    c.divide.ensures.sound c.cover.ensures.graph c.cover.ensures.grows) c.in_ok-results.ensures.after) c.union.ensures.grows
+    c.union.ensures.sound).ready
     c.in_ok-union.field-0 c.in_ok-union.ensures.node)
     (subst (λ (ids : List NodeId). IsInOne (map (typ (graph_of c.check_bodies.new.world)) ids) ⊆ elements_of
     (graph_of c.union.new.world) c.in_ok-union.field-0)
@@ -1052,11 +1027,10 @@ branches::check_some-divide-requires-clause-branches t c = patterns_sound (progr
     (names_seen c.args.base.now c.args.locals.now) (plain_branches c.args.branches.now) c.requires.branches
 
 pub branches::check_some-returns-clause-after : goal.branches::check_some-returns-clause-after
-branches::check_some-returns-clause-after t c = on_ok_weaker c.check_bodies.result
-    (λ after. after_both c.args.base.now c.args.locals.now (graph_of c.args.world.now) (graph_of c.divide.new.world)
-    (graph_of c.check_bodies.new.world)
-    (after_step c.args.base.now c.args.locals.now c.args.world.now c.divide.new.world c.requires.ready c.divide.ensures.grows c.divide.ensures.sound
-    (graph_of c.divide.new.world) refl) after) c.check_bodies.ensures.after
+branches::check_some-returns-clause-after t c = after_both c.args.base.now c.args.locals.now c.args.world.now c.divide.new.world
+    c.check_bodies.new.world
+    (after_start c.args.base.now c.args.locals.now c.args.world.now c.divide.new.world c.requires.ready c.divide.ensures.grows c.divide.ensures.sound)
+    c.check_bodies.ensures.after
 
 pub branches::check_some-returns-clause-gives : goal.branches::check_some-returns-clause-gives
 branches::check_some-returns-clause-gives t c = IfOk-weaker c.check_bodies.result _ _
@@ -1072,19 +1046,17 @@ branches::check_let-remaining-requires-clause-site t c = (c.site_at-sited.ensure
     (scope_of c.args.base.now) c.in_ok-matched.ensures.after.ready.sited).site.accepted
 
 pub branches::check_let-returns-in-Some-clause-after : goal.branches::check_let-returns-in-Some-clause-after
-branches::check_let-returns-in-Some-clause-after t c = (after_both c.args.base.now c.args.locals.now (graph_of c.args.world.now)
-    (graph_of c.check.new.world) (graph_of c.check_body.new.world) c.in_ok-matched.ensures.after
-    (after_both c.args.base.now c.args.locals.now (graph_of c.check.new.world) (graph_of c.cover.new.world)
-    (graph_of c.check_body.new.world) (after_step c.args.base.now c.args.locals.now c.check.new.world c.remaining.new.world c.in_ok-matched.ensures.after.ready c.remaining.ensures.grows c.remaining.ensures.sound
-    (graph_of c.cover.new.world) c.cover.ensures.graph)
+branches::check_let-returns-in-Some-clause-after t c = (after_both c.args.base.now c.args.locals.now c.args.world.now c.check.new.world
+    c.check_body.new.world c.in_ok-matched.ensures.after (after_both c.args.base.now c.args.locals.now c.check.new.world c.cover.new.world
+    c.check_body.new.world (after_step c.args.base.now c.args.locals.now c.check.new.world c.remaining.new.world c.cover.new.world
+    c.in_ok-matched.ensures.after.ready c.remaining.ensures.grows c.remaining.ensures.sound c.cover.ensures.graph c.cover.ensures.grows)
     c.in_ok-id.ensures.after))
 
 pub branches::check_let-returns-in-None-clause-after : goal.branches::check_let-returns-in-None-clause-after
-branches::check_let-returns-in-None-clause-after t c = (after_both c.args.base.now c.args.locals.now (graph_of c.args.world.now) (graph_of c.check.new.world)
-    (graph_of c.check_body.new.world) c.in_ok-matched.ensures.after
-    (after_both c.args.base.now c.args.locals.now (graph_of c.check.new.world) (graph_of c.cover.new.world)
-    (graph_of c.check_body.new.world) (after_step c.args.base.now c.args.locals.now c.check.new.world c.remaining.new.world c.in_ok-matched.ensures.after.ready c.remaining.ensures.grows c.remaining.ensures.sound
-    (graph_of c.cover.new.world) c.cover.ensures.graph)
+branches::check_let-returns-in-None-clause-after t c = (after_both c.args.base.now c.args.locals.now c.args.world.now c.check.new.world
+    c.check_body.new.world c.in_ok-matched.ensures.after (after_both c.args.base.now c.args.locals.now c.check.new.world c.cover.new.world
+    c.check_body.new.world (after_step c.args.base.now c.args.locals.now c.check.new.world c.remaining.new.world c.cover.new.world
+    c.in_ok-matched.ensures.after.ready c.remaining.ensures.grows c.remaining.ensures.sound c.cover.ensures.graph c.cover.ensures.grows)
     c.in_ok-id.ensures.after))
 
 pub branches::check_let-returns-in-Some-clause-gives : goal.branches::check_let-returns-in-Some-clause-gives
@@ -1115,12 +1087,10 @@ branches::check_let-returns-in-Some-clause-gives t c = let_gives (scope_of c.arg
 
 pub branches::check_let-returns-in-None-clause-gives : goal.branches::check_let-returns-in-None-clause-gives
 branches::check_let-returns-in-None-clause-gives t c =
-    let after = (after_both c.args.base.now c.args.locals.now (graph_of c.args.world.now) (graph_of c.check.new.world)
-    (graph_of c.check_body.new.world) c.in_ok-matched.ensures.after
-    (after_both c.args.base.now c.args.locals.now (graph_of c.check.new.world) (graph_of c.cover.new.world)
-    (graph_of c.check_body.new.world) (after_step c.args.base.now c.args.locals.now c.check.new.world c.remaining.new.world c.in_ok-matched.ensures.after.ready c.remaining.ensures.grows c.remaining.ensures.sound
-    (graph_of c.cover.new.world) c.cover.ensures.graph)
-    c.in_ok-id.ensures.after)) in
+    let after = (after_both c.args.base.now c.args.locals.now c.args.world.now c.check.new.world c.check_body.new.world
+    c.in_ok-matched.ensures.after (after_both c.args.base.now c.args.locals.now c.check.new.world c.cover.new.world c.check_body.new.world
+    (after_step c.args.base.now c.args.locals.now c.check.new.world c.remaining.new.world c.cover.new.world c.in_ok-matched.ensures.after.ready
+    c.remaining.ensures.grows c.remaining.ensures.sound c.cover.ensures.graph c.cover.ensures.grows) c.in_ok-id.ensures.after)) in
     let_gives_none (scope_of c.args.base.now) (graph_of c.args.world.now) c.requires.ready.sound
     (seen_by c.args.base.now c.args.locals.now) c.requires.ready.nodes
     (plain c.args.value.now) c.in_ok-matched.matched (graph_of c.check.new.world) c.in_ok-matched.ensures.after.later
@@ -1160,11 +1130,9 @@ branches::check_try-union-requires t c = subst (λ (ids : List NodeId). AllOf (�
     ))
 
 pub branches::check_try-returns-clause-after : goal.branches::check_try-returns-clause-after
-branches::check_try-returns-clause-after t c = (after_grown c.args.base.now c.args.locals.now (graph_of c.args.world.now) c.check_some.new.world
-    c.union.new.world
-    (after_both c.args.base.now c.args.locals.now (graph_of c.args.world.now) (graph_of c.check.new.world)
-    (graph_of c.check_some.new.world) c.in_ok-id.ensures.after c.in_ok-results.ensures.after)
-    c.union.ensures.grows c.union.ensures.sound)
+branches::check_try-returns-clause-after t c = (after_grown c.args.base.now c.args.locals.now c.args.world.now c.check_some.new.world
+    c.union.new.world (after_both c.args.base.now c.args.locals.now c.args.world.now c.check.new.world c.check_some.new.world
+    c.in_ok-id.ensures.after c.in_ok-results.ensures.after) c.union.ensures.grows c.union.ensures.sound)
 
 pub branches::check_try-returns-clause-gives : goal.branches::check_try-returns-clause-gives
 branches::check_try-returns-clause-gives t c =
@@ -1178,10 +1146,9 @@ branches::check_try-returns-clause-gives t c =
     (plain c.args.body.now) c.in_ok-id.id (graph_of c.check.new.world) c.in_ok-id.ensures.after.later c.in_ok-id.ensures.gives
     (plain_branches c.args.branches.now) (graph_of c.union.new.world) c.in_ok-union.field-0
     (type_in c.args.base.now (graph_of c.union.new.world) c.args.locals.now
-    (after_grown c.args.base.now c.args.locals.now (graph_of c.args.world.now) c.check_some.new.world c.union.new.world
-    (after_both c.args.base.now c.args.locals.now (graph_of c.args.world.now) (graph_of c.check.new.world)
-    (graph_of c.check_some.new.world) c.in_ok-id.ensures.after c.in_ok-results.ensures.after)
-    c.union.ensures.grows c.union.ensures.sound).ready
+    (after_grown c.args.base.now c.args.locals.now c.args.world.now c.check_some.new.world c.union.new.world
+    (after_both c.args.base.now c.args.locals.now c.args.world.now c.check.new.world c.check_some.new.world c.in_ok-id.ensures.after
+    c.in_ok-results.ensures.after) c.union.ensures.grows c.union.ensures.sound).ready
     c.in_ok-union.field-0 c.in_ok-union.ensures.node)
     (built_in_within (graph_of c.check.new.world) c.in_ok-id.ensures.after.ready.more c.in_ok-id.ensures.after.ready.begins
     DATA (lit< tt))
@@ -1196,14 +1163,11 @@ branches::check_try-returns-clause-gives t c =
     c.in_ok-union.field-0 has))
 
 pub branches::check_map-returns-clause-after : goal.branches::check_map-returns-clause-after
-branches::check_map-returns-clause-after t c = (after_grown c.args.base.now c.args.locals.now (graph_of c.args.world.now) c.check_covering.new.world
-    c.list_of.new.world
-    (after_both c.args.base.now c.args.locals.now (graph_of c.args.world.now) (graph_of c.items.new.world)
-    (graph_of c.check_covering.new.world)
-    (after_later c.args.base.now c.args.locals.now (graph_of c.args.world.now) (graph_of c.check.new.world)
-    (graph_of c.items.new.world) c.in_ok-list.ensures.after
-    (subst (λ (graph : Graph). IsLater graph (graph_of c.items.new.world)) c.need_at.ensures.graph
-    (later_of c.need_at.new.world c.items.new.world c.items.ensures.grows c.items.ensures.sound))) c.in_ok-result.ensures.after)
+branches::check_map-returns-clause-after t c = (after_grown c.args.base.now c.args.locals.now c.args.world.now c.check_covering.new.world
+    c.list_of.new.world (after_both c.args.base.now c.args.locals.now c.args.world.now c.items.new.world c.check_covering.new.world
+    (after_grown c.args.base.now c.args.locals.now c.args.world.now c.need_at.new.world c.items.new.world
+    (after_same c.args.base.now c.args.locals.now c.args.world.now c.check.new.world c.need_at.new.world c.in_ok-list.ensures.after
+    c.need_at.ensures.graph c.need_at.ensures.grows) c.items.ensures.grows c.items.ensures.sound) c.in_ok-result.ensures.after)
     c.list_of.ensures.grows c.list_of.ensures.sound)
 
 pub branches::check_map-returns-clause-gives : goal.branches::check_map-returns-clause-gives
@@ -1215,10 +1179,9 @@ branches::check_map-returns-clause-gives t c = map_gives (scope_of c.args.base.n
     (later_of c.need_at.new.world c.items.new.world c.items.ensures.grows c.items.ensures.sound))
     c.in_ok-list.ensures.after.ready.nodes c.in_ok-matched.matched
     (type_in c.args.base.now (graph_of c.items.new.world) c.args.locals.now
-    (after_later c.args.base.now c.args.locals.now (graph_of c.args.world.now) (graph_of c.check.new.world)
-    (graph_of c.items.new.world) c.in_ok-list.ensures.after
-    (subst (λ (graph : Graph). IsLater graph (graph_of c.items.new.world)) c.need_at.ensures.graph
-    (later_of c.need_at.new.world c.items.new.world c.items.ensures.grows c.items.ensures.sound))).ready
+    (after_grown c.args.base.now c.args.locals.now c.args.world.now c.need_at.new.world c.items.new.world
+    (after_same c.args.base.now c.args.locals.now c.args.world.now c.check.new.world c.need_at.new.world c.in_ok-list.ensures.after
+    c.need_at.ensures.graph c.need_at.ensures.grows) c.items.ensures.grows c.items.ensures.sound).ready
     c.in_ok-matched.matched c.in_ok-matched.ensures.node)
     (lists_in (graph_of c.need_at.new.world) (graph_of c.check.new.world) (graph_of c.items.new.world) c.need_at.ensures.graph
     c.in_ok-list.list
@@ -1228,13 +1191,11 @@ branches::check_map-returns-clause-gives t c = map_gives (scope_of c.args.base.n
     (graph_of c.check_covering.new.world) (graph_of c.list_of.new.world) c.in_ok-result.result c.in_ok-list_of.field-0
     c.in_ok-result.ensures.gives.is_type
     (type_in c.args.base.now (graph_of c.list_of.new.world) c.args.locals.now
-    (after_grown c.args.base.now c.args.locals.now (graph_of c.args.world.now) c.check_covering.new.world c.list_of.new.world
-    (after_both c.args.base.now c.args.locals.now (graph_of c.args.world.now) (graph_of c.items.new.world)
-    (graph_of c.check_covering.new.world)
-    (after_later c.args.base.now c.args.locals.now (graph_of c.args.world.now) (graph_of c.check.new.world)
-    (graph_of c.items.new.world) c.in_ok-list.ensures.after
-    (subst (λ (graph : Graph). IsLater graph (graph_of c.items.new.world)) c.need_at.ensures.graph
-    (later_of c.need_at.new.world c.items.new.world c.items.ensures.grows c.items.ensures.sound))) c.in_ok-result.ensures.after)
+    (after_grown c.args.base.now c.args.locals.now c.args.world.now c.check_covering.new.world c.list_of.new.world
+    (after_both c.args.base.now c.args.locals.now c.args.world.now c.items.new.world c.check_covering.new.world
+    (after_grown c.args.base.now c.args.locals.now c.args.world.now c.need_at.new.world c.items.new.world
+    (after_same c.args.base.now c.args.locals.now c.args.world.now c.check.new.world c.need_at.new.world c.in_ok-list.ensures.after
+    c.need_at.ensures.graph c.need_at.ensures.grows) c.items.ensures.grows c.items.ensures.sound) c.in_ok-result.ensures.after)
     c.list_of.ensures.grows c.list_of.ensures.sound).ready
     c.in_ok-list_of.field-0 c.in_ok-list_of.ensures.node)
     c.in_ok-result.ensures.gives.cover c.in_ok-result.ensures.gives.have_types c.in_ok-list_of.ensures.has
@@ -1244,20 +1205,14 @@ branches::check_transform-union-requires t c = subst (λ (ids : List NodeId). Al
     (sym c.as_slice.ensures.value) c.in_ok-results.ensures.gives.are_nodes
 
 pub branches::check_transform-returns-clause-after : goal.branches::check_transform-returns-clause-after
-branches::check_transform-returns-clause-after t c = (after_grown c.args.base.now c.args.locals.now (graph_of c.args.world.now) c.items-2.new.world
-    c.list_of.new.world
-    (after_grown c.args.base.now c.args.locals.now (graph_of c.args.world.now) c.union.new.world c.items-2.new.world
-    (after_grown c.args.base.now c.args.locals.now (graph_of c.args.world.now) c.check_some.new.world c.union.new.world
-    (after_both c.args.base.now c.args.locals.now (graph_of c.args.world.now) (graph_of c.items.new.world)
-    (graph_of c.check_some.new.world)
-    (after_later c.args.base.now c.args.locals.now (graph_of c.args.world.now) (graph_of c.check.new.world)
-    (graph_of c.items.new.world) c.in_ok-list.ensures.after
-    (subst (λ (graph : Graph). IsLater graph (graph_of c.items.new.world)) c.need_at.ensures.graph
-    (later_of c.need_at.new.world c.items.new.world c.items.ensures.grows c.items.ensures.sound)))
-    c.in_ok-results.ensures.after)
-    c.union.ensures.grows c.union.ensures.sound)
-    c.items-2.ensures.grows c.items-2.ensures.sound)
-    c.list_of.ensures.grows c.list_of.ensures.sound)
+branches::check_transform-returns-clause-after t c = (after_grown c.args.base.now c.args.locals.now c.args.world.now c.items-2.new.world
+    c.list_of.new.world (after_grown c.args.base.now c.args.locals.now c.args.world.now c.union.new.world c.items-2.new.world
+    (after_grown c.args.base.now c.args.locals.now c.args.world.now c.check_some.new.world c.union.new.world
+    (after_both c.args.base.now c.args.locals.now c.args.world.now c.items.new.world c.check_some.new.world
+    (after_grown c.args.base.now c.args.locals.now c.args.world.now c.need_at.new.world c.items.new.world
+    (after_same c.args.base.now c.args.locals.now c.args.world.now c.check.new.world c.need_at.new.world c.in_ok-list.ensures.after
+    c.need_at.ensures.graph c.need_at.ensures.grows) c.items.ensures.grows c.items.ensures.sound) c.in_ok-results.ensures.after)
+    c.union.ensures.grows c.union.ensures.sound) c.items-2.ensures.grows c.items-2.ensures.sound) c.list_of.ensures.grows c.list_of.ensures.sound)
 
 pub branches::check_transform-returns-clause-gives : goal.branches::check_transform-returns-clause-gives
 branches::check_transform-returns-clause-gives t c = transform_gives (scope_of c.args.base.now) (graph_of c.args.world.now) c.requires.ready.sound
@@ -1268,10 +1223,9 @@ branches::check_transform-returns-clause-gives t c = transform_gives (scope_of c
     (later_of c.need_at.new.world c.items.new.world c.items.ensures.grows c.items.ensures.sound))
     c.in_ok-list.ensures.after.ready.nodes c.in_ok-matched.matched
     (type_in c.args.base.now (graph_of c.items.new.world) c.args.locals.now
-    (after_later c.args.base.now c.args.locals.now (graph_of c.args.world.now) (graph_of c.check.new.world)
-    (graph_of c.items.new.world) c.in_ok-list.ensures.after
-    (subst (λ (graph : Graph). IsLater graph (graph_of c.items.new.world)) c.need_at.ensures.graph
-    (later_of c.need_at.new.world c.items.new.world c.items.ensures.grows c.items.ensures.sound))).ready
+    (after_grown c.args.base.now c.args.locals.now c.args.world.now c.need_at.new.world c.items.new.world
+    (after_same c.args.base.now c.args.locals.now c.args.world.now c.check.new.world c.need_at.new.world c.in_ok-list.ensures.after
+    c.need_at.ensures.graph c.need_at.ensures.grows) c.items.ensures.grows c.items.ensures.sound).ready
     c.in_ok-matched.matched c.in_ok-matched.ensures.node)
     (lists_in (graph_of c.need_at.new.world) (graph_of c.check.new.world) (graph_of c.items.new.world) c.need_at.ensures.graph
     c.in_ok-list.list
@@ -1280,32 +1234,24 @@ branches::check_transform-returns-clause-gives t c = transform_gives (scope_of c
     c.in_ok-matched.ensures.has) (plain_branches c.args.branches.now)
     (graph_of c.items-2.new.world) (graph_of c.list_of.new.world) c.in_ok-item.item c.in_ok-list_of.field-0
     (type_in c.args.base.now (graph_of c.items-2.new.world) c.args.locals.now
-    (after_grown c.args.base.now c.args.locals.now (graph_of c.args.world.now) c.union.new.world c.items-2.new.world
-    (after_grown c.args.base.now c.args.locals.now (graph_of c.args.world.now) c.check_some.new.world c.union.new.world
-    (after_both c.args.base.now c.args.locals.now (graph_of c.args.world.now) (graph_of c.items.new.world)
-    (graph_of c.check_some.new.world)
-    (after_later c.args.base.now c.args.locals.now (graph_of c.args.world.now) (graph_of c.check.new.world)
-    (graph_of c.items.new.world) c.in_ok-list.ensures.after
-    (subst (λ (graph : Graph). IsLater graph (graph_of c.items.new.world)) c.need_at.ensures.graph
-    (later_of c.need_at.new.world c.items.new.world c.items.ensures.grows c.items.ensures.sound)))
-    c.in_ok-results.ensures.after)
-    c.union.ensures.grows c.union.ensures.sound)
-    c.items-2.ensures.grows c.items-2.ensures.sound).ready
+    (after_grown c.args.base.now c.args.locals.now c.args.world.now c.union.new.world c.items-2.new.world
+    (after_grown c.args.base.now c.args.locals.now c.args.world.now c.check_some.new.world c.union.new.world
+    (after_both c.args.base.now c.args.locals.now c.args.world.now c.items.new.world c.check_some.new.world
+    (after_grown c.args.base.now c.args.locals.now c.args.world.now c.need_at.new.world c.items.new.world
+    (after_same c.args.base.now c.args.locals.now c.args.world.now c.check.new.world c.need_at.new.world c.in_ok-list.ensures.after
+    c.need_at.ensures.graph c.need_at.ensures.grows) c.items.ensures.grows c.items.ensures.sound) c.in_ok-results.ensures.after)
+    c.union.ensures.grows c.union.ensures.sound) c.items-2.ensures.grows c.items-2.ensures.sound).ready
     c.in_ok-item.item c.in_ok-item.ensures.node)
     (type_in c.args.base.now (graph_of c.list_of.new.world) c.args.locals.now
-    (after_grown c.args.base.now c.args.locals.now (graph_of c.args.world.now) c.items-2.new.world c.list_of.new.world
-    (after_grown c.args.base.now c.args.locals.now (graph_of c.args.world.now) c.union.new.world c.items-2.new.world
-    (after_grown c.args.base.now c.args.locals.now (graph_of c.args.world.now) c.check_some.new.world c.union.new.world
-    (after_both c.args.base.now c.args.locals.now (graph_of c.args.world.now) (graph_of c.items.new.world)
-    (graph_of c.check_some.new.world)
-    (after_later c.args.base.now c.args.locals.now (graph_of c.args.world.now) (graph_of c.check.new.world)
-    (graph_of c.items.new.world) c.in_ok-list.ensures.after
-    (subst (λ (graph : Graph). IsLater graph (graph_of c.items.new.world)) c.need_at.ensures.graph
-    (later_of c.need_at.new.world c.items.new.world c.items.ensures.grows c.items.ensures.sound)))
-    c.in_ok-results.ensures.after)
-    c.union.ensures.grows c.union.ensures.sound)
-    c.items-2.ensures.grows c.items-2.ensures.sound)
-    c.list_of.ensures.grows c.list_of.ensures.sound).ready
+    (after_grown c.args.base.now c.args.locals.now c.args.world.now c.items-2.new.world c.list_of.new.world
+    (after_grown c.args.base.now c.args.locals.now c.args.world.now c.union.new.world c.items-2.new.world
+    (after_grown c.args.base.now c.args.locals.now c.args.world.now c.check_some.new.world c.union.new.world
+    (after_both c.args.base.now c.args.locals.now c.args.world.now c.items.new.world c.check_some.new.world
+    (after_grown c.args.base.now c.args.locals.now c.args.world.now c.need_at.new.world c.items.new.world
+    (after_same c.args.base.now c.args.locals.now c.args.world.now c.check.new.world c.need_at.new.world c.in_ok-list.ensures.after
+    c.need_at.ensures.graph c.need_at.ensures.grows) c.items.ensures.grows c.items.ensures.sound) c.in_ok-results.ensures.after)
+    c.union.ensures.grows c.union.ensures.sound) c.items-2.ensures.grows c.items-2.ensures.sound) c.list_of.ensures.grows
+    c.list_of.ensures.sound).ready
     c.in_ok-list_of.field-0 c.in_ok-list_of.ensures.node)
     (bodies_from c.args.base.now c.args.locals.now (graph_of c.items.new.world) (plain_branches c.args.branches.now)
     c.in_ok-matched.matched (graph_of c.check_some.new.world)
@@ -1313,12 +1259,10 @@ branches::check_transform-returns-clause-gives t c = transform_gives (scope_of c
     (sequences_within (graph_of c.check_some.new.world) (graph_of c.union.new.world) (graph_of c.items-2.new.world)
     (graph_of c.list_of.new.world)
     c.in_ok-results.results.items c.args.base.now.tools.sequences c.in_ok-lists.lists c.in_ok-item.item c.in_ok-list_of.field-0
-    (after_both c.args.base.now c.args.locals.now (graph_of c.args.world.now) (graph_of c.items.new.world)
-    (graph_of c.check_some.new.world)
-    (after_later c.args.base.now c.args.locals.now (graph_of c.args.world.now) (graph_of c.check.new.world)
-    (graph_of c.items.new.world) c.in_ok-list.ensures.after
-    (subst (λ (graph : Graph). IsLater graph (graph_of c.items.new.world)) c.need_at.ensures.graph
-    (later_of c.need_at.new.world c.items.new.world c.items.ensures.grows c.items.ensures.sound)))
+    (after_both c.args.base.now c.args.locals.now c.args.world.now c.items.new.world c.check_some.new.world
+    (after_grown c.args.base.now c.args.locals.now c.args.world.now c.need_at.new.world c.items.new.world
+    (after_same c.args.base.now c.args.locals.now c.args.world.now c.check.new.world c.need_at.new.world c.in_ok-list.ensures.after
+    c.need_at.ensures.graph c.need_at.ensures.grows) c.items.ensures.grows c.items.ensures.sound)
     c.in_ok-results.ensures.after).ready.tools.are_sequences
     c.in_ok-results.ensures.within
     (subst (λ (ids : List NodeId). IsInOne (map (typ (graph_of c.check_some.new.world)) ids) ⊆ elements_of
@@ -1336,15 +1280,15 @@ bodies::check_bodies-loop-number-preserved t c =
     (subst (λ (all : List Coming). IsItemAt all c.loop-number.number c.get.result) c.deref.ensures.value
     c.get.ensures.lookup)
     c.in-Some.is in
-    let further : Done c.args.base.now c.args.locals.now (graph_of c.args.world.now) c.args.division.now
+    let further : Done c.args.base.now c.args.locals.now c.args.world.now c.args.division.now
     (plain_branches c.args.branches.now)
-    c.items-branch-items.result.now c.args.limit (graph_of c.check_body.new.world) (c.loop-number.number + 1)
+    c.items-branch-items.result.now c.args.limit c.check_body.new.world (c.loop-number.number + 1)
     (c.loop-number.results.items ++ listed c.in_ok-id.field-0) =
-    one_done c.args.base.now c.args.locals.now (graph_of c.args.world.now) c.requires.ready c.args.division.now
-    (plain_branches c.args.branches.now) c.items-branch-items.result.now c.args.limit (graph_of c.loop-number.world)
+    one_done c.args.base.now c.args.locals.now c.args.world.now c.requires.ready c.args.division.now
+    (plain_branches c.args.branches.now) c.items-branch-items.result.now c.args.limit c.loop-number.world
     c.loop-number.number
     c.loop-number.results.items c.loop-number.invariant c.branch-item.result c.branch-item.is c.loop-number-test.true
-    c.in-Some.coming.now looked.0 looked.1 c.requires.limit (graph_of c.check_body.new.world) c.in_ok-id.field-0
+    c.in-Some.coming.now looked.0 looked.1 c.requires.limit c.check_body.new.world c.in_ok-id.field-0
     c.in_ok-id.ensures.after
     (subst (λ (body : Expr). BodyGives (scope_of c.args.base.now) (graph_of c.loop-number.world)
     (seen_by c.args.base.now c.args.locals.now) (graph_of c.check_body.new.world)
@@ -1356,22 +1300,22 @@ bodies::check_bodies-loop-number-preserved t c =
     c.in_ok-id.field-0) (sym (branch_body c.branch-item.result)) c.in_ok-id.ensures.least) in
     elim c.match-branch-2.branch [
       | bodies::check_bodies-in-Some-2+in_ok-add w ↦ rw (w.results-is)
-          (subst (λ (ids : List NodeId). Done c.args.base.now c.args.locals.now (graph_of c.args.world.now) c.args.division.now
-          (plain_branches c.args.branches.now) c.items-branch-items.result.now c.args.limit (graph_of c.check_body.new.world)
+          (subst (λ (ids : List NodeId). Done c.args.base.now c.args.locals.now c.args.world.now c.args.division.now
+          (plain_branches c.args.branches.now) c.items-branch-items.result.now c.args.limit c.check_body.new.world
           (c.loop-number.number + 1) ids)
           (ap (λ found. c.loop-number.results.items ++ listed found) w.in-Some-2.is ∙ sym w.in_ok-add.ensures) further)
       | bodies::check_bodies-in_default w ↦ rw (w.results-is)
-          (subst (λ (ids : List NodeId). Done c.args.base.now c.args.locals.now (graph_of c.args.world.now) c.args.division.now
-          (plain_branches c.args.branches.now) c.items-branch-items.result.now c.args.limit (graph_of c.check_body.new.world)
+          (subst (λ (ids : List NodeId). Done c.args.base.now c.args.locals.now c.args.world.now c.args.division.now
+          (plain_branches c.args.branches.now) c.items-branch-items.result.now c.args.limit c.check_body.new.world
           (c.loop-number.number + 1) ids)
           (ap (λ found. c.loop-number.results.items ++ listed found) w.in_default.is ∙ append-nil c.loop-number.results.items)
           further)
     ]
 
 pub bodies::check_bodies-returns-clause-gives : goal.bodies::check_bodies-returns-clause-gives
-bodies::check_bodies-returns-clause-gives t c = all_done c.args.base.now c.args.locals.now (graph_of c.args.world.now) c.requires.ready
+bodies::check_bodies-returns-clause-gives t c = all_done c.args.base.now c.args.locals.now c.args.world.now c.requires.ready
     c.args.division.now
-    (plain_branches c.args.branches.now) c.items-branch-items.result.now c.args.limit (graph_of c.loop-number.world)
+    (plain_branches c.args.branches.now) c.items-branch-items.result.now c.args.limit c.loop-number.world
     c.loop-number.number
     c.loop-number.results.items c.loop-number.invariant c.loop-number-test.false
 
@@ -1395,7 +1339,6 @@ bodies::check_body-returns-in_ok-keep_limit-in-Some-clause-gives t c =
     let sited = coming.sited.now in
     let comes = something_comes old coming.matched sited.site middle c.in_ok-captures.field-0 c.in-Some.own c.in_ok-captures.ensures.comes
     c.in-Some.is in
-    let taken = comes.taken scope (coming_pattern coming) c.requires.sited.site in
     subst (λ (graph : Graph). BodyGives scope old (seen_by base c.args.locals.now) graph (elements_of old coming.matched) (coming_pattern coming)
     (plain c.args.body.now) (Some c.in_ok-id-in-Some.id)) (sym c.keep_limit.ensures.graph)
     (one_gives base c.args.locals.now c.in-Some.own.items c.as_slice.result.now (c.as_slice.ensures.value ∙ c.in_ok-all-in-Some.ensures)
@@ -1405,32 +1348,32 @@ bodies::check_body-returns-in_ok-keep_limit-in-Some-clause-gives t c =
     (graph_of c.check.new.world) c.in_ok-id-in-Some.id c.in_ok-id-in-Some.ensures.gives)
 
 pub bodies::check_body-returns-in-None-clause-after : goal.bodies::check_body-returns-in-None-clause-after
-bodies::check_body-returns-in-None-clause-after t c = after_grown c.args.base.now c.args.locals.now (graph_of c.args.world.now) c.args.world.now
-    c.captures-2.new.world (after_none c.args.base.now c.args.locals.now (graph_of c.args.world.now) c.requires.ready)
-    c.captures-2.ensures.grows c.captures-2.ensures.sound
+bodies::check_body-returns-in-None-clause-after t c = after_start c.args.base.now c.args.locals.now c.args.world.now c.captures-2.new.world
+    c.requires.ready c.captures-2.ensures.grows c.captures-2.ensures.sound
 
 pub bodies::check_body-returns-in_ok-keep_limit-in-Some-clause-after : goal.bodies::check_body-returns-in_ok-keep_limit-in-Some-clause-after
-bodies::check_body-returns-in_ok-keep_limit-in-Some-clause-after t c = after_same c.args.base.now c.args.locals.now (graph_of c.args.world.now)
-    (graph_of c.check.new.world) (graph_of c.keep_limit.new.world)
-    (after_all c.args.base.now (graph_of c.args.world.now) (graph_of c.captures-2.new.world) (graph_of c.check.new.world)
-    c.args.locals.now c.as_slice.result.now c.requires.ready
-    (later_of c.args.world.now c.captures-2.new.world c.captures-2.ensures.grows c.captures-2.ensures.sound)
-    c.in_ok-id-in-Some.ensures.after) c.keep_limit.ensures.graph
+bodies::check_body-returns-in_ok-keep_limit-in-Some-clause-after t c =
+    let base = c.args.base.now in
+    let locals = c.args.locals.now in
+    let start = c.args.world.now in
+    let first = after_all base locals c.as_slice.result.now start c.captures-2.new.world c.check.new.world c.requires.ready
+    c.captures-2.ensures.grows c.captures-2.ensures.sound c.in_ok-id-in-Some.ensures.after in
+    after_same base locals start c.check.new.world c.keep_limit.new.world first c.keep_limit.ensures.graph c.keep_limit.ensures.grows
 
 pub function::check_function-nodes_of-nodes-requires-clause-function : goal.function::check_function-nodes_of-nodes-requires-clause-function
 function::check_function-nodes_of-nodes-requires-clause-function t c = function_within (program_of c.args.base.now)
     (names_seen c.args.base.now c.args.locals.now) (plain_function c.args.function.now) c.requires.sound
 
 pub function::check_function-returns-clause-gives : goal.function::check_function-returns-clause-gives
-function::check_function-returns-clause-gives t c = function_gives c.args.base.now (graph_of c.args.world.now) c.args.locals.now c.requires.ready
-    (graph_of c.check_promise.new.world) c.in_ok-check_promise.ensures.after (plain_function c.args.function.now) c.nodes_of-nodes.result.now
+function::check_function-returns-clause-gives t c = function_gives c.args.base.now c.args.world.now c.args.locals.now c.requires.ready
+    c.check_promise.new.world c.in_ok-check_promise.ensures.after (plain_function c.args.function.now) c.nodes_of-nodes.result.now
     (c.nodes_of-nodes.ensures (scope_of c.args.base.now) (graph_of c.args.world.now)
     c.requires.ready.promised)
     c.in_ok-check_promise.ensures.kept
 
 pub function::check_promise-loop-argument-init : goal.function::check_promise-loop-argument-init
 function::check_promise-loop-argument-init t c = (
-  after_none c.args.base.now c.in_ok-inner.inner.items (graph_of c.args.world.now)
+  after_none c.args.base.now c.in_ok-inner.inner.items c.args.world.now
       (ready_named c.args.base.now (graph_of c.args.world.now) c.args.locals.now (out-FunctionTree c.args.function.now).name
       c.args.nodes.now.whole c.in_ok-inner.inner.items
       c.in_ok-inner.ensures (whole_below (scope_of c.args.base.now) (graph_of c.args.world.now)
@@ -1442,13 +1385,10 @@ function::check_promise-loop-argument-init t c = (
 pub function::check_promise-loop-argument-preserved : goal.function::check_promise-loop-argument-preserved
 function::check_promise-loop-argument-preserved t c =
     let beyond : NodeId × NodeId = (record { 0 = 0 }, record { 0 = 0 }) in
-    let after : IsAfter c.args.base.now c.in_ok-inner.inner.items (graph_of c.loop-argument.world)
-    (graph_of c.check_arrow.new.world) =
-    subst (λ (names : Nodes). IsAfter c.args.base.now names (graph_of c.loop-argument.world)
-    (graph_of c.check_arrow.new.world)) c.as_slice.ensures.value
+    let after = subst (λ (names : Nodes). IsAfter c.args.base.now names c.loop-argument.world c.check_arrow.new.world) c.as_slice.ensures.value
     c.in_ok-check_arrow.ensures.after in (
-      after_both c.args.base.now c.in_ok-inner.inner.items (graph_of c.args.world.now) (graph_of c.loop-argument.world)
-          (graph_of c.check_arrow.new.world) c.loop-argument.invariant.0 after,
+      after_both c.args.base.now c.in_ok-inner.inner.items c.args.world.now c.loop-argument.world c.check_arrow.new.world
+          c.loop-argument.invariant.0 after,
       one_kept c.args.base.now c.in_ok-inner.inner.items (graph_of c.args.world.now)
           (ready_named c.args.base.now (graph_of c.args.world.now) c.args.locals.now (out-FunctionTree c.args.function.now).name
           c.args.nodes.now.whole c.in_ok-inner.inner.items
@@ -1494,14 +1434,9 @@ function::check_arrow-cover-requires t c = record {
 }
 
 pub function::check_arrow-returns-clause-after : goal.function::check_arrow-returns-clause-after
-function::check_arrow-returns-clause-after t c = after_both c.args.base.now c.args.locals.now (graph_of c.args.world.now) (graph_of c.cover.new.world)
-    (graph_of c.check_bodies.new.world)
-    (after_same c.args.base.now c.args.locals.now (graph_of c.args.world.now)
-    (graph_of c.divide.new.world) (graph_of c.cover.new.world)
-    (after_grown c.args.base.now c.args.locals.now (graph_of c.args.world.now) c.args.world.now c.divide.new.world
-    (after_none c.args.base.now c.args.locals.now (graph_of c.args.world.now) c.requires.ready) c.divide.ensures.grows
-    c.divide.ensures.sound)
-    c.cover.ensures.graph) c.in_ok-check_bodies.ensures.after
+function::check_arrow-returns-clause-after t c = after_both c.args.base.now c.args.locals.now c.args.world.now c.cover.new.world
+    c.check_bodies.new.world (after_step c.args.base.now c.args.locals.now c.args.world.now c.divide.new.world c.cover.new.world c.requires.ready
+    c.divide.ensures.grows c.divide.ensures.sound c.cover.ensures.graph c.cover.ensures.grows) c.in_ok-check_bodies.ensures.after
 
 pub function::check_arrow-returns-clause-kept : goal.function::check_arrow-returns-clause-kept
 function::check_arrow-returns-clause-kept t c = arrow_given c.args.base.now c.args.locals.now (graph_of c.args.world.now) c.requires.ready
@@ -1602,8 +1537,8 @@ pub branches::check_covering-check_bodies-requires : goal.branches::check_coveri
 branches::check_covering-check_bodies-requires t c = (
   search (rules, c.decreases),
   (
-    ((after_step c.args.base.now c.args.locals.now c.args.world.now c.divide.new.world c.requires.ready c.divide.ensures.grows c.divide.ensures.sound
-        (graph_of c.cover.new.world) c.cover.ensures.graph).ready),
+    ((after_step c.args.base.now c.args.locals.now c.args.world.now c.divide.new.world c.cover.new.world c.requires.ready c.divide.ensures.grows
+        c.divide.ensures.sound c.cover.ensures.graph c.cover.ensures.grows).ready),
     (
       search rules,
       (
@@ -1623,8 +1558,8 @@ pub branches::check_some-check_bodies-requires : goal.branches::check_some-check
 branches::check_some-check_bodies-requires t c = (
   search (rules, c.decreases),
   (
-    ((after_step c.args.base.now c.args.locals.now c.args.world.now c.divide.new.world c.requires.ready c.divide.ensures.grows c.divide.ensures.sound
-        (graph_of c.divide.new.world) refl).ready),
+    ((after_start c.args.base.now c.args.locals.now c.args.world.now c.divide.new.world c.requires.ready c.divide.ensures.grows
+        c.divide.ensures.sound).ready),
     (
       search rules,
       (
@@ -1643,8 +1578,8 @@ pub branches::check_let-check_body-requires : goal.branches::check_let-check_bod
 branches::check_let-check_body-requires t c = (
   search (rules, c.decreases),
   (
-    ((after_step c.args.base.now c.args.locals.now c.check.new.world c.remaining.new.world c.in_ok-matched.ensures.after.ready c.remaining.ensures.grows c.remaining.ensures.sound
-        (graph_of c.cover.new.world) c.cover.ensures.graph).ready),
+    ((after_step c.args.base.now c.args.locals.now c.check.new.world c.remaining.new.world c.cover.new.world c.in_ok-matched.ensures.after.ready
+        c.remaining.ensures.grows c.remaining.ensures.sound c.cover.ensures.graph c.cover.ensures.grows).ready),
     (
       (subst (λ (tree : Tree). IsSound (program_of c.args.base.now)
           (names_of tree ++ names_seen c.args.base.now c.args.locals.now) (plain c.args.rest.now))
@@ -1658,8 +1593,9 @@ branches::check_let-check_body-requires t c = (
             c.in_ok-matched.ensures.after.ready.sited))),
         (
           (below_later (graph_of c.check.new.world) (graph_of c.cover.new.world)
-              (after_step c.args.base.now c.args.locals.now c.check.new.world c.remaining.new.world c.in_ok-matched.ensures.after.ready c.remaining.ensures.grows c.remaining.ensures.sound
-              (graph_of c.cover.new.world) c.cover.ensures.graph).later
+              (after_step c.args.base.now c.args.locals.now c.check.new.world c.remaining.new.world c.cover.new.world
+              c.in_ok-matched.ensures.after.ready c.remaining.ensures.grows c.remaining.ensures.sound c.cover.ensures.graph
+              c.cover.ensures.grows).later
               c.in_ok-matched.matched c.in_ok-matched.ensures.gives.is_type.is_node),
           search rules,
         ),
@@ -1688,10 +1624,9 @@ pub branches::check_map-check_covering-requires : goal.branches::check_map-check
 branches::check_map-check_covering-requires t c = (
   search (rules, c.decreases),
   (
-    ((after_later c.args.base.now c.args.locals.now (graph_of c.args.world.now)
-        (graph_of c.check.new.world) (graph_of c.items.new.world) c.in_ok-list.ensures.after
-        (subst (λ (graph : Graph). IsLater graph (graph_of c.items.new.world)) c.need_at.ensures.graph
-        (later_of c.need_at.new.world c.items.new.world c.items.ensures.grows c.items.ensures.sound))).ready),
+    ((after_grown c.args.base.now c.args.locals.now c.args.world.now c.need_at.new.world c.items.new.world
+        (after_same c.args.base.now c.args.locals.now c.args.world.now c.check.new.world c.need_at.new.world c.in_ok-list.ensures.after
+        c.need_at.ensures.graph c.need_at.ensures.grows) c.items.ensures.grows c.items.ensures.sound).ready),
     (
       search rules,
       search rules,
@@ -1703,18 +1638,16 @@ pub branches::check_transform-check_some-requires : goal.branches::check_transfo
 branches::check_transform-check_some-requires t c = (
   search (rules, c.decreases),
   (
-    ((after_later c.args.base.now c.args.locals.now (graph_of c.args.world.now)
-        (graph_of c.check.new.world) (graph_of c.items.new.world) c.in_ok-list.ensures.after
-        (subst (λ (graph : Graph). IsLater graph (graph_of c.items.new.world)) c.need_at.ensures.graph
-        (later_of c.need_at.new.world c.items.new.world c.items.ensures.grows c.items.ensures.sound))).ready),
+    ((after_grown c.args.base.now c.args.locals.now c.args.world.now c.need_at.new.world c.items.new.world
+        (after_same c.args.base.now c.args.locals.now c.args.world.now c.check.new.world c.need_at.new.world c.in_ok-list.ensures.after
+        c.need_at.ensures.graph c.need_at.ensures.grows) c.items.ensures.grows c.items.ensures.sound).ready),
     (
       search rules,
       (
         search rules,
-        ((after_later c.args.base.now c.args.locals.now (graph_of c.args.world.now)
-            (graph_of c.check.new.world) (graph_of c.items.new.world) c.in_ok-list.ensures.after
-            (subst (λ (graph : Graph). IsLater graph (graph_of c.items.new.world)) c.need_at.ensures.graph
-            (later_of c.need_at.new.world c.items.new.world c.items.ensures.grows c.items.ensures.sound))).ready.tools.sequences),
+        ((after_grown c.args.base.now c.args.locals.now c.args.world.now c.need_at.new.world c.items.new.world
+            (after_same c.args.base.now c.args.locals.now c.args.world.now c.check.new.world c.need_at.new.world c.in_ok-list.ensures.after
+            c.need_at.ensures.graph c.need_at.ensures.grows) c.items.ensures.grows c.items.ensures.sound).ready.tools.sequences),
       ),
     ),
   ),
@@ -1744,14 +1677,14 @@ bodies::check_bodies-check_body-requires t c =
         (
           subst (λ (body : Expr). IsSound (program_of base) (names_of (coming_pattern coming.now) ++ names_seen base locals) body)
               (branch_body c.branch-item.result)
-              (is_sound base locals old c.requires.ready division branches items c.args.limit new number c.loop-number.results.items done
+              (is_sound base locals c.args.world.now c.requires.ready division branches items c.args.limit c.loop-number.world number c.loop-number.results.items done
               c.branch-item.result c.branch-item.is c.loop-number-test.true coming.now looked.0 looked.1 c.items-branch-items.ensures
               c.requires.sound),
           (
-            is_sited base locals old c.requires.ready division branches items c.args.limit new number c.loop-number.results.items done
+            is_sited base locals c.args.world.now c.requires.ready division branches items c.args.limit c.loop-number.world number c.loop-number.results.items done
                 c.branch-item.result c.branch-item.is c.loop-number-test.true coming.now looked.0 looked.1,
             (
-              matched_below base locals old c.requires.ready division branches items c.args.limit new number c.loop-number.results.items
+              matched_below base locals c.args.world.now c.requires.ready division branches items c.args.limit c.loop-number.world number c.loop-number.results.items
                   done c.branch-item.result c.branch-item.is c.loop-number-test.true coming.now looked.0 looked.1,
               limit_later old new done.after.later c.args.limit c.requires.limit,
             ),
@@ -1833,12 +1766,8 @@ pub function::check_arrow-check_bodies-requires : goal.function::check_arrow-che
 function::check_arrow-check_bodies-requires t c = (
   search (rules, c.decreases),
   (
-    ((after_same c.args.base.now c.args.locals.now (graph_of c.args.world.now)
-        (graph_of c.divide.new.world) (graph_of c.cover.new.world)
-        (after_grown c.args.base.now c.args.locals.now (graph_of c.args.world.now) c.args.world.now c.divide.new.world
-        (after_none c.args.base.now c.args.locals.now (graph_of c.args.world.now) c.requires.ready) c.divide.ensures.grows
-        c.divide.ensures.sound)
-        c.cover.ensures.graph).ready),
+    ((after_step c.args.base.now c.args.locals.now c.args.world.now c.divide.new.world c.cover.new.world c.requires.ready c.divide.ensures.grows
+        c.divide.ensures.sound c.cover.ensures.graph c.cover.ensures.grows).ready),
     (
       search rules,
       (
@@ -1848,12 +1777,8 @@ function::check_arrow-check_bodies-requires t c = (
         (
           c.in_ok-division.ensures.patterns,
           (below_later (graph_of c.args.world.now) (graph_of c.cover.new.world)
-              (after_same c.args.base.now c.args.locals.now (graph_of c.args.world.now)
-              (graph_of c.divide.new.world) (graph_of c.cover.new.world)
-              (after_grown c.args.base.now c.args.locals.now (graph_of c.args.world.now) c.args.world.now c.divide.new.world
-              (after_none c.args.base.now c.args.locals.now (graph_of c.args.world.now) c.requires.ready) c.divide.ensures.grows
-              c.divide.ensures.sound)
-              c.cover.ensures.graph).later c.args.arrow.1 c.requires.result),
+              (after_step c.args.base.now c.args.locals.now c.args.world.now c.divide.new.world c.cover.new.world c.requires.ready
+              c.divide.ensures.grows c.divide.ensures.sound c.cover.ensures.graph c.cover.ensures.grows).later c.args.arrow.1 c.requires.result),
         ),
       ),
     ),
@@ -2071,7 +1996,8 @@ test::check_if-returns-clause-least t c =
     let tested = c.in_ok-tested.tested in
     let condition = plain c.args.condition.now in
     let step = c.in_ok-tested.ensures in
-    let first = after_same base locals old (graph_of c.check.new.world) (graph_of c.need_at.new.world) step.after c.need_at.ensures.graph in
+    let first = after_same base locals c.args.world.now c.check.new.world c.need_at.new.world step.after c.need_at.ensures.graph
+    c.need_at.ensures.grows in
     test_least (scope_of base) nodes old c.requires.ready.sound c.requires.ready.nodes condition tested (graph_of c.need_at.new.world) first.later
     (subst (λ (whole : Graph). IsKnown old nodes (scope_of base) whole condition tested) (sym c.need_at.ensures.graph)
     (known (scope_of base) old nodes (graph_of c.check.new.world) condition tested step.gives step.least))
@@ -2125,7 +2051,8 @@ test::check_if-returns-in_err-one-clause-fault t c =
     rw (is.1, is.2)
     (λ here. then_fails (scope_of base) nodes old ready.sound ready.nodes (table_of c.check_side.new.world) condition
     (plain c.args.then_one.now) (plain c.args.else_one.now) here c.in_err-one.field-0.0 first
-    (after_same base locals old (graph_of c.check.new.world) first step.after c.need_at.ensures.graph).later tested
+    (after_same base locals c.args.world.now c.check.new.world c.need_at.new.world step.after c.need_at.ensures.graph
+    c.need_at.ensures.grows).later tested
     (subst (λ (whole : Graph). IsKnown old nodes (scope_of base) whole condition tested) (sym c.need_at.ensures.graph)
     (known (scope_of base) old nodes (graph_of c.check.new.world) condition tested step.gives step.least))
     c.in_err-one.ensures.fault)
@@ -2142,12 +2069,13 @@ test::check_if-returns-in_err-other-clause-fault t c =
     let step = c.in_ok-tested.ensures in
     let first = graph_of c.need_at.new.world in
     let second = graph_of c.check_side.new.world in
-    let after = after_same base locals old (graph_of c.check.new.world) first step.after c.need_at.ensures.graph in
+    let after = after_same base locals c.args.world.now c.check.new.world c.need_at.new.world step.after c.need_at.ensures.graph
+    c.need_at.ensures.grows in
     let is = err_from_is_err_and c.from_residual-in_err-other.result c.from_residual-in_err-other.ensures.1 in
     rw (is.1, is.2)
     (λ here. else_fails (scope_of base) nodes old ready.sound ready.nodes (table_of c.check_side-2.new.world) condition
     (plain c.args.then_one.now) (plain c.args.else_one.now) here c.in_err-other.field-0.0 second
-    (after_both base locals old first second after c.in_ok-one.ensures.after).later tested
+    (after_both base locals c.args.world.now c.need_at.new.world c.check_side.new.world after c.in_ok-one.ensures.after).later tested
     (known_later (scope_of base) old nodes first second c.in_ok-one.ensures.after.later after.ready.sound condition tested
     (subst (λ (whole : Graph). IsKnown old nodes (scope_of base) whole condition tested) (sym c.need_at.ensures.graph)
     (known (scope_of base) old nodes (graph_of c.check.new.world) condition tested step.gives step.least)))
@@ -2164,9 +2092,9 @@ test::check_short-returns-clause-least t c =
     let e = plain c.args.expr.now in
     let second = graph_of c.check_side.new.world in
     let last = graph_of c.either.new.world in
-    let after = after_both base locals old (graph_of c.need_at.new.world) second
-    (after_same base locals old old (graph_of c.need_at.new.world) (after_none base locals old c.requires.ready) c.need_at.ensures.graph)
-    c.in_ok-long.ensures.after in
+    let after = after_both base locals c.args.world.now c.need_at.new.world c.check_side.new.world
+    (after_same base locals c.args.world.now c.args.world.now c.need_at.new.world (after_none base locals c.args.world.now c.requires.ready)
+    c.need_at.ensures.graph c.need_at.ensures.grows) c.in_ok-long.ensures.after in
     short_least (scope_of base) nodes old c.requires.ready.sound c.requires.ready.nodes tested c.requires.first e second last after.later
     c.in_ok-either.field-0 (truth_node base (not met)) c.in_ok-short.short c.in_ok-long.long
     (subst (λ (whole : Graph). elements_of last c.in_ok-either.field-0 ⊆ IsInEither whole c.in_ok-short.short c.in_ok-long.long)
@@ -2305,13 +2233,13 @@ function::check_function-returns-clause-least t c = function_below (scope_of c.a
     c.requires.ready.promised)
 
 pub bodies::check_bodies-loop-number-init : goal.bodies::check_bodies-loop-number-init
-bodies::check_bodies-loop-number-init t c = rw c.new-results.ensures.items (none_done c.args.base.now c.args.locals.now (graph_of c.args.world.now) c.requires.ready c.args.division.now
+bodies::check_bodies-loop-number-init t c = rw c.new-results.ensures.items (none_done c.args.base.now c.args.locals.now c.args.world.now c.requires.ready c.args.division.now
     (plain_branches c.args.branches.now) c.items-branch-items.result.now c.args.limit c.items-branch-items.ensures c.requires.division
     c.requires.patterns)
 
 pub bodies::check_bodies-returns-clause-least : goal.bodies::check_bodies-returns-clause-least
-bodies::check_bodies-returns-clause-least t c = all_done_least c.args.base.now c.args.locals.now (graph_of c.args.world.now) c.requires.ready c.args.division.now
-    (plain_branches c.args.branches.now) c.items-branch-items.result.now c.args.limit (graph_of c.loop-number.world)
+bodies::check_bodies-returns-clause-least t c = all_done_least c.args.base.now c.args.locals.now c.args.world.now c.requires.ready c.args.division.now
+    (plain_branches c.args.branches.now) c.items-branch-items.result.now c.args.limit c.loop-number.world
     c.loop-number.number c.loop-number.results.items c.loop-number.invariant c.loop-number-test.false
 
 pub bodies::check_bodies-returns-in_err-id-clause-fault : goal.bodies::check_bodies-returns-in_err-id-clause-fault
@@ -2326,8 +2254,8 @@ bodies::check_bodies-returns-in_err-id-clause-fault t c =
     (subst (λ (all : List Coming). IsItemAt all c.loop-number.number c.get.result) c.deref.ensures.value c.get.ensures.lookup) c.in-Some.is in
     let is = err_from_is_err_and c.from_residual.result c.from_residual.ensures.1 in
     rw (is.1, is.2)
-    (one_failed base locals (graph_of c.args.world.now) c.requires.ready division (plain_branches c.args.branches.now)
-    c.items-branch-items.result.now c.args.limit (graph_of c.loop-number.world) c.loop-number.number c.loop-number.results.items
+    (one_failed base locals c.args.world.now c.requires.ready division (plain_branches c.args.branches.now)
+    c.items-branch-items.result.now c.args.limit c.loop-number.world c.loop-number.number c.loop-number.results.items
     c.loop-number.invariant c.branch-item.result c.branch-item.is c.loop-number-test.true coming looked.0 looked.1 c.requires.limit table error
     (subst (λ (body : Expr). BodyFails base (graph_of c.loop-number.world) locals table coming.matched c.args.limit (coming_pattern coming) body error)
     (sym (branch_body c.branch-item.result)) c.in_err-id.ensures.fault))
@@ -3064,3 +2992,584 @@ operands::check_xml-returns-in_err-third-clause-fault t c =
     (later_still old first second c.in_ok-first.ensures.after.later c.in_ok-second.ensures.after.later)
     (plain c.args.tag.now) (plain c.args.attributes.now) (plain c.args.content.now) here (table_of c.check-3.new.world) c.in_err-third.field-0.0
     c.in_err-third.ensures.fault)
+
+pub chain::check_apply-returns-clause-after : goal.chain::check_apply-returns-clause-after
+chain::check_apply-returns-clause-after t c = after_both c.args.base.now c.args.locals.now c.args.world.now c.check.new.world
+    c.check_arguments.new.world c.check.ensures.after c.check_arguments.ensures.after
+
+pub function::check_promise-returns-clause-after : goal.function::check_promise-returns-clause-after
+function::check_promise-returns-clause-after t c = after_others c.args.base.now c.args.locals.now c.in_ok-inner.inner.items c.args.world.now
+    c.loop-argument.world c.requires.ready c.loop-argument.invariant.0
+
+pub function::check_promise-returns-in_err-check_arrow-clause-after : goal.function::check_promise-returns-in_err-check_arrow-clause-after
+function::check_promise-returns-in_err-check_arrow-clause-after t c =
+    let base = c.args.base.now in
+    let inner = c.in_ok-inner.inner.items in
+    let start = c.args.world.now in
+    let step = subst (λ (names : Nodes). IsAfter base names c.loop-argument.world c.check_arrow.new.world) c.as_slice.ensures.value
+    c.check_arrow.ensures.after in
+    after_others base c.args.locals.now inner start c.check_arrow.new.world c.requires.ready
+    (after_both base inner start c.loop-argument.world c.check_arrow.new.world c.loop-argument.invariant.0 step)
+
+pub expr::check_kind-returns-in_err-constant_node-in-Constant-clause-after : goal.expr::check_kind-returns-in_err-constant_node-in-Constant-clause-after
+expr::check_kind-returns-in_err-constant_node-in-Constant-clause-after t c =
+    let base = c.args.base.now in
+    let locals = c.args.locals.now in
+    let start = c.args.world.now in
+    after_start base locals start c.constant_node.new.world c.requires.ready c.constant_node.ensures.grows c.constant_node.ensures.sound
+
+pub expr::check_call-returns-in-Err-clause-after : goal.expr::check_call-returns-in-Err-clause-after
+expr::check_call-returns-in-Err-clause-after t c =
+    let base = c.args.base.now in
+    let locals = c.args.locals.now in
+    let start = c.args.world.now in
+    after_grown base locals start c.check.new.world c.call.new.world c.check.ensures.after c.call.ensures.grows c.call.ensures.sound
+
+pub operands::check_tuple-returns-in_err-tuple-clause-after : goal.operands::check_tuple-returns-in_err-tuple-clause-after
+operands::check_tuple-returns-in_err-tuple-clause-after t c =
+    let base = c.args.base.now in
+    let locals = c.args.locals.now in
+    let start = c.args.world.now in
+    after_grown base locals start c.check_exprs.new.world c.tuple.new.world c.check_exprs.ensures.after c.tuple.ensures.grows c.tuple.ensures.sound
+
+pub operands::check_exprs-returns-in_err-id-clause-after : goal.operands::check_exprs-returns-in_err-id-clause-after
+operands::check_exprs-returns-in_err-id-clause-after t c =
+    let base = c.args.base.now in
+    let locals = c.args.locals.now in
+    let start = c.args.world.now in
+    after_both base locals start c.loop-expr.world c.check.new.world c.loop-expr.invariant.0 c.check.ensures.after
+
+pub operands::check_exprs-returns-in_err-add-clause-after : goal.operands::check_exprs-returns-in_err-add-clause-after
+operands::check_exprs-returns-in_err-add-clause-after t c =
+    let base = c.args.base.now in
+    let locals = c.args.locals.now in
+    let start = c.args.world.now in
+    after_both base locals start c.loop-expr.world c.check.new.world c.loop-expr.invariant.0 c.check.ensures.after
+
+pub operands::check_sequence-returns-in_err-sequence-clause-after : goal.operands::check_sequence-returns-in_err-sequence-clause-after
+operands::check_sequence-returns-in_err-sequence-clause-after t c =
+    let base = c.args.base.now in
+    let locals = c.args.locals.now in
+    let start = c.args.world.now in
+    after_grown base locals start c.check_items.new.world c.sequence.new.world c.check_items.ensures.after c.sequence.ensures.grows
+    c.sequence.ensures.sound
+
+pub operands::check_items-returns-in_err-id-clause-after : goal.operands::check_items-returns-in_err-id-clause-after
+operands::check_items-returns-in_err-id-clause-after t c =
+    let base = c.args.base.now in
+    let locals = c.args.locals.now in
+    let start = c.args.world.now in
+    after_both base locals start c.loop-item.world c.check_item.new.world c.loop-item.invariant.0 c.check_item.ensures.after
+
+pub operands::check_items-returns-in_err-add-clause-after : goal.operands::check_items-returns-in_err-add-clause-after
+operands::check_items-returns-in_err-add-clause-after t c =
+    let base = c.args.base.now in
+    let locals = c.args.locals.now in
+    let start = c.args.world.now in
+    after_both base locals start c.loop-item.world c.check_item.new.world c.loop-item.invariant.0 c.check_item.ensures.after
+
+pub operands::check_item-returns-in_err-need_at-in-Splice-clause-after : goal.operands::check_item-returns-in_err-need_at-in-Splice-clause-after
+operands::check_item-returns-in_err-need_at-in-Splice-clause-after t c =
+    let base = c.args.base.now in
+    let locals = c.args.locals.now in
+    let start = c.args.world.now in
+    after_same base locals start c.check-in-Splice.new.world c.need_at.new.world c.check-in-Splice.ensures.after c.need_at.ensures.graph
+    c.need_at.ensures.grows
+
+pub operands::check_item-returns-in_ok-need_at-in-Splice-clause-after : goal.operands::check_item-returns-in_ok-need_at-in-Splice-clause-after
+operands::check_item-returns-in_ok-need_at-in-Splice-clause-after t c =
+    let base = c.args.base.now in
+    let locals = c.args.locals.now in
+    let start = c.args.world.now in
+    after_same base locals start c.check-in-Splice.new.world c.need_at.new.world c.check-in-Splice.ensures.after c.need_at.ensures.graph
+    c.need_at.ensures.grows
+
+pub operands::check_record-returns-in_err-record-clause-after : goal.operands::check_record-returns-in_err-record-clause-after
+operands::check_record-returns-in_err-record-clause-after t c =
+    let base = c.args.base.now in
+    let locals = c.args.locals.now in
+    let start = c.args.world.now in
+    after_grown base locals start c.check_fields.new.world c.record.new.world c.check_fields.ensures.after c.record.ensures.grows
+    c.record.ensures.sound
+
+pub operands::check_fields-returns-in_err-id-clause-after : goal.operands::check_fields-returns-in_err-id-clause-after
+operands::check_fields-returns-in_err-id-clause-after t c =
+    let base = c.args.base.now in
+    let locals = c.args.locals.now in
+    let start = c.args.world.now in
+    after_both base locals start c.loop-field.world c.check.new.world c.loop-field.invariant.0 c.check.ensures.after
+
+pub operands::check_fields-returns-in_err-add-clause-after : goal.operands::check_fields-returns-in_err-add-clause-after
+operands::check_fields-returns-in_err-add-clause-after t c =
+    let base = c.args.base.now in
+    let locals = c.args.locals.now in
+    let start = c.args.world.now in
+    after_both base locals start c.loop-field.world c.check.new.world c.loop-field.invariant.0 c.check.ensures.after
+
+pub operands::check_xml-returns-in_err-second-clause-after : goal.operands::check_xml-returns-in_err-second-clause-after
+operands::check_xml-returns-in_err-second-clause-after t c =
+    let base = c.args.base.now in
+    let locals = c.args.locals.now in
+    let start = c.args.world.now in
+    after_both base locals start c.check.new.world c.check-2.new.world c.check.ensures.after c.check-2.ensures.after
+
+pub operands::check_xml-returns-in_err-third-clause-after : goal.operands::check_xml-returns-in_err-third-clause-after
+operands::check_xml-returns-in_err-third-clause-after t c =
+    let base = c.args.base.now in
+    let locals = c.args.locals.now in
+    let start = c.args.world.now in
+    let first = after_both base locals start c.check.new.world c.check-2.new.world c.check.ensures.after c.check-2.ensures.after in
+    after_both base locals start c.check-2.new.world c.check-3.new.world first c.check-3.ensures.after
+
+pub operands::check_xml-returns-in_err-need_at-clause-after : goal.operands::check_xml-returns-in_err-need_at-clause-after
+operands::check_xml-returns-in_err-need_at-clause-after t c =
+    let base = c.args.base.now in
+    let locals = c.args.locals.now in
+    let start = c.args.world.now in
+    let first = after_both base locals start c.check.new.world c.check-2.new.world c.check.ensures.after c.check-2.ensures.after in
+    let second = after_both base locals start c.check-2.new.world c.check-3.new.world first c.check-3.ensures.after in
+    after_same base locals start c.check-3.new.world c.need_at.new.world second c.need_at.ensures.graph c.need_at.ensures.grows
+
+pub operands::check_xml-returns-in_err-need_at-2-clause-after : goal.operands::check_xml-returns-in_err-need_at-2-clause-after
+operands::check_xml-returns-in_err-need_at-2-clause-after t c =
+    let base = c.args.base.now in
+    let locals = c.args.locals.now in
+    let start = c.args.world.now in
+    let first = after_both base locals start c.check.new.world c.check-2.new.world c.check.ensures.after c.check-2.ensures.after in
+    let second = after_both base locals start c.check-2.new.world c.check-3.new.world first c.check-3.ensures.after in
+    let third = after_same base locals start c.check-3.new.world c.need_at.new.world second c.need_at.ensures.graph c.need_at.ensures.grows in
+    after_same base locals start c.need_at.new.world c.need_at-2.new.world third c.need_at-2.ensures.graph c.need_at-2.ensures.grows
+
+pub operands::check_xml-returns-in_err-xml-clause-after : goal.operands::check_xml-returns-in_err-xml-clause-after
+operands::check_xml-returns-in_err-xml-clause-after t c =
+    let base = c.args.base.now in
+    let locals = c.args.locals.now in
+    let start = c.args.world.now in
+    let first = after_both base locals start c.check.new.world c.check-2.new.world c.check.ensures.after c.check-2.ensures.after in
+    let second = after_both base locals start c.check-2.new.world c.check-3.new.world first c.check-3.ensures.after in
+    let third = after_same base locals start c.check-3.new.world c.need_at.new.world second c.need_at.ensures.graph c.need_at.ensures.grows in
+    let fourth = after_same base locals start c.need_at.new.world c.need_at-2.new.world third c.need_at-2.ensures.graph c.need_at-2.ensures.grows in
+    after_grown base locals start c.need_at-2.new.world c.xml.new.world fourth c.xml.ensures.grows c.xml.ensures.sound
+
+pub function::check_arrow-returns-in_err-division-clause-after : goal.function::check_arrow-returns-in_err-division-clause-after
+function::check_arrow-returns-in_err-division-clause-after t c =
+    let base = c.args.base.now in
+    let locals = c.args.locals.now in
+    let start = c.args.world.now in
+    after_start base locals start c.divide.new.world c.requires.ready c.divide.ensures.grows c.divide.ensures.sound
+
+pub function::check_arrow-returns-in_err-cover-clause-after : goal.function::check_arrow-returns-in_err-cover-clause-after
+function::check_arrow-returns-in_err-cover-clause-after t c =
+    let base = c.args.base.now in
+    let locals = c.args.locals.now in
+    let start = c.args.world.now in
+    let first = after_start base locals start c.divide.new.world c.requires.ready c.divide.ensures.grows c.divide.ensures.sound in
+    after_same base locals start c.divide.new.world c.cover.new.world first c.cover.ensures.graph c.cover.ensures.grows
+
+pub function::check_arrow-returns-in_err-check_bodies-clause-after : goal.function::check_arrow-returns-in_err-check_bodies-clause-after
+function::check_arrow-returns-in_err-check_bodies-clause-after t c =
+    let base = c.args.base.now in
+    let locals = c.args.locals.now in
+    let start = c.args.world.now in
+    let first = after_start base locals start c.divide.new.world c.requires.ready c.divide.ensures.grows c.divide.ensures.sound in
+    let second = after_same base locals start c.divide.new.world c.cover.new.world first c.cover.ensures.graph c.cover.ensures.grows in
+    after_both base locals start c.cover.new.world c.check_bodies.new.world second c.check_bodies.ensures.after
+
+pub chain::check_arguments-returns-in_err-id-clause-after : goal.chain::check_arguments-returns-in_err-id-clause-after
+chain::check_arguments-returns-in_err-id-clause-after t c =
+    let base = c.args.base.now in
+    let locals = c.args.locals.now in
+    let start = c.args.world.now in
+    after_both base locals start c.loop-argument.world c.check_argument.new.world c.loop-argument.invariant.0 c.check_argument.ensures.after
+
+pub chain::check_argument-returns-in_err-results-clause-after : goal.chain::check_argument-returns-in_err-results-clause-after
+chain::check_argument-returns-in_err-results-clause-after t c =
+    let base = c.args.base.now in
+    let locals = c.args.locals.now in
+    let start = c.args.world.now in
+    after_grown base locals start c.check.new.world c.apply.new.world c.check.ensures.after c.apply.ensures.grows c.apply.ensures.sound
+
+pub chain::check_argument-returns-in-NotFunction-clause-after : goal.chain::check_argument-returns-in-NotFunction-clause-after
+chain::check_argument-returns-in-NotFunction-clause-after t c =
+    let base = c.args.base.now in
+    let locals = c.args.locals.now in
+    let start = c.args.world.now in
+    after_grown base locals start c.check.new.world c.apply.new.world c.check.ensures.after c.apply.ensures.grows c.apply.ensures.sound
+
+pub chain::check_argument-returns-in-OutsideDomain-clause-after : goal.chain::check_argument-returns-in-OutsideDomain-clause-after
+chain::check_argument-returns-in-OutsideDomain-clause-after t c =
+    let base = c.args.base.now in
+    let locals = c.args.locals.now in
+    let start = c.args.world.now in
+    after_grown base locals start c.check.new.world c.apply.new.world c.check.ensures.after c.apply.ensures.grows c.apply.ensures.sound
+
+pub chain::check_tails-returns-in_err-id-clause-after : goal.chain::check_tails-returns-in_err-id-clause-after
+chain::check_tails-returns-in_err-id-clause-after t c =
+    let base = c.args.base.now in
+    let locals = c.args.locals.now in
+    let start = c.args.world.now in
+    after_both base locals start c.loop-tail.world c.check_tail.new.world c.loop-tail.invariant.0 c.check_tail.ensures.after
+
+pub chain::check_tail-returns-in-Err-clause-after : goal.chain::check_tail-returns-in-Err-clause-after
+chain::check_tail-returns-in-Err-clause-after t c =
+    let base = c.args.base.now in
+    let locals = c.args.locals.now in
+    let start = c.args.world.now in
+    after_start base locals start c.drop_field.new.world c.requires.ready c.drop_field.ensures.grows c.drop_field.ensures.sound
+
+pub chain::check_tail-returns-in-Err-take_field-clause-after : goal.chain::check_tail-returns-in-Err-take_field-clause-after
+chain::check_tail-returns-in-Err-take_field-clause-after t c =
+    let base = c.args.base.now in
+    let locals = c.args.locals.now in
+    let start = c.args.world.now in
+    after_start base locals start c.take_field.new.world c.requires.ready c.take_field.ensures.grows c.take_field.ensures.sound
+
+pub chain::check_operand-returns-in-Err-clause-after : goal.chain::check_operand-returns-in-Err-clause-after
+chain::check_operand-returns-in-Err-clause-after t c =
+    let base = c.args.base.now in
+    let locals = c.args.locals.now in
+    let start = c.args.world.now in
+    after_grown base locals start c.check.new.world c.operate.new.world c.check.ensures.after c.operate.ensures.grows c.operate.ensures.sound
+
+pub test::check_if-returns-in_err-need_at-clause-after : goal.test::check_if-returns-in_err-need_at-clause-after
+test::check_if-returns-in_err-need_at-clause-after t c =
+    let base = c.args.base.now in
+    let locals = c.args.locals.now in
+    let start = c.args.world.now in
+    after_same base locals start c.check.new.world c.need_at.new.world c.check.ensures.after c.need_at.ensures.graph c.need_at.ensures.grows
+
+pub test::check_if-returns-in_err-one-clause-after : goal.test::check_if-returns-in_err-one-clause-after
+test::check_if-returns-in_err-one-clause-after t c =
+    let base = c.args.base.now in
+    let locals = c.args.locals.now in
+    let start = c.args.world.now in
+    let first = after_same base locals start c.check.new.world c.need_at.new.world c.check.ensures.after c.need_at.ensures.graph
+    c.need_at.ensures.grows in
+    after_both base locals start c.need_at.new.world c.check_side.new.world first c.check_side.ensures.after
+
+pub test::check_if-returns-in_err-other-clause-after : goal.test::check_if-returns-in_err-other-clause-after
+test::check_if-returns-in_err-other-clause-after t c =
+    let base = c.args.base.now in
+    let locals = c.args.locals.now in
+    let start = c.args.world.now in
+    let first = after_same base locals start c.check.new.world c.need_at.new.world c.check.ensures.after c.need_at.ensures.graph
+    c.need_at.ensures.grows in
+    let second = after_both base locals start c.need_at.new.world c.check_side.new.world first c.check_side.ensures.after in
+    after_both base locals start c.check_side.new.world c.check_side-2.new.world second c.check_side-2.ensures.after
+
+pub test::check_if-returns-in_err-either-clause-after : goal.test::check_if-returns-in_err-either-clause-after
+test::check_if-returns-in_err-either-clause-after t c =
+    let base = c.args.base.now in
+    let locals = c.args.locals.now in
+    let start = c.args.world.now in
+    let first = after_same base locals start c.check.new.world c.need_at.new.world c.check.ensures.after c.need_at.ensures.graph
+    c.need_at.ensures.grows in
+    let second = after_both base locals start c.need_at.new.world c.check_side.new.world first c.check_side.ensures.after in
+    let third = after_both base locals start c.check_side.new.world c.check_side-2.new.world second c.check_side-2.ensures.after in
+    after_grown base locals start c.check_side-2.new.world c.either.new.world third c.either.ensures.grows c.either.ensures.sound
+
+pub test::check_short-returns-in_err-need_at-clause-after : goal.test::check_short-returns-in_err-need_at-clause-after
+test::check_short-returns-in_err-need_at-clause-after t c =
+    let base = c.args.base.now in
+    let locals = c.args.locals.now in
+    let start = c.args.world.now in
+    after_same base locals start start c.need_at.new.world (after_none base locals start c.requires.ready) c.need_at.ensures.graph
+    c.need_at.ensures.grows
+
+pub test::check_short-returns-in_err-long-clause-after : goal.test::check_short-returns-in_err-long-clause-after
+test::check_short-returns-in_err-long-clause-after t c =
+    let base = c.args.base.now in
+    let locals = c.args.locals.now in
+    let start = c.args.world.now in
+    let first = after_same base locals start start c.need_at.new.world (after_none base locals start c.requires.ready) c.need_at.ensures.graph
+    c.need_at.ensures.grows in
+    after_both base locals start c.need_at.new.world c.check_side.new.world first c.check_side.ensures.after
+
+pub test::check_short-returns-in_err-short-clause-after : goal.test::check_short-returns-in_err-short-clause-after
+test::check_short-returns-in_err-short-clause-after t c =
+    let base = c.args.base.now in
+    let locals = c.args.locals.now in
+    let start = c.args.world.now in
+    let first = after_same base locals start start c.need_at.new.world (after_none base locals start c.requires.ready) c.need_at.ensures.graph
+    c.need_at.ensures.grows in
+    let second = after_both base locals start c.need_at.new.world c.check_side.new.world first c.check_side.ensures.after in
+    after_same base locals start c.check_side.new.world c.short_side.new.world second c.short_side.ensures.graph c.short_side.ensures.grows
+
+pub test::check_short-returns-in_err-either-clause-after : goal.test::check_short-returns-in_err-either-clause-after
+test::check_short-returns-in_err-either-clause-after t c =
+    let base = c.args.base.now in
+    let locals = c.args.locals.now in
+    let start = c.args.world.now in
+    let first = after_same base locals start start c.need_at.new.world (after_none base locals start c.requires.ready) c.need_at.ensures.graph
+    c.need_at.ensures.grows in
+    let second = after_both base locals start c.need_at.new.world c.check_side.new.world first c.check_side.ensures.after in
+    let third = after_same base locals start c.check_side.new.world c.short_side.new.world second c.short_side.ensures.graph
+    c.short_side.ensures.grows in
+    after_grown base locals start c.short_side.new.world c.either.new.world third c.either.ensures.grows c.either.ensures.sound
+
+pub test::check_side-returns-in_err-may_be-clause-after : goal.test::check_side-returns-in_err-may_be-clause-after
+test::check_side-returns-in_err-may_be-clause-after t c =
+    let base = c.args.base.now in
+    let locals = c.args.locals.now in
+    let start = c.args.world.now in
+    after_same base locals start start c.may_be.new.world (after_none base locals start c.requires.ready) c.may_be.ensures.graph
+    c.may_be.ensures.grows
+
+pub test::check_side-returns-in_err-check-clause-after : goal.test::check_side-returns-in_err-check-clause-after
+test::check_side-returns-in_err-check-clause-after t c =
+    let base = c.args.base.now in
+    let locals = c.args.locals.now in
+    let start = c.args.world.now in
+    let first = after_same base locals start start c.may_be.new.world (after_none base locals start c.requires.ready) c.may_be.ensures.graph
+    c.may_be.ensures.grows in
+    after_both base locals start c.may_be.new.world c.check.new.world first c.check.ensures.after
+
+pub test::check_side-returns-then-branch-clause-after : goal.test::check_side-returns-then-branch-clause-after
+test::check_side-returns-then-branch-clause-after t c =
+    let base = c.args.base.now in
+    let locals = c.args.locals.now in
+    let start = c.args.world.now in
+    let first = after_same base locals start start c.may_be.new.world (after_none base locals start c.requires.ready) c.may_be.ensures.graph
+    c.may_be.ensures.grows in
+    after_both base locals start c.may_be.new.world c.check.new.world first c.check.ensures.after
+
+pub test::check_side-returns-clause-after : goal.test::check_side-returns-clause-after
+test::check_side-returns-clause-after t c =
+    let base = c.args.base.now in
+    let locals = c.args.locals.now in
+    let start = c.args.world.now in
+    after_same base locals start start c.may_be.new.world (after_none base locals start c.requires.ready) c.may_be.ensures.graph
+    c.may_be.ensures.grows
+
+pub branches::check_covering-returns-in_err-division-clause-after : goal.branches::check_covering-returns-in_err-division-clause-after
+branches::check_covering-returns-in_err-division-clause-after t c =
+    let base = c.args.base.now in
+    let locals = c.args.locals.now in
+    let start = c.args.world.now in
+    after_start base locals start c.divide.new.world c.requires.ready c.divide.ensures.grows c.divide.ensures.sound
+
+pub branches::check_covering-returns-in_err-cover-clause-after : goal.branches::check_covering-returns-in_err-cover-clause-after
+branches::check_covering-returns-in_err-cover-clause-after t c =
+    let base = c.args.base.now in
+    let locals = c.args.locals.now in
+    let start = c.args.world.now in
+    let first = after_start base locals start c.divide.new.world c.requires.ready c.divide.ensures.grows c.divide.ensures.sound in
+    after_same base locals start c.divide.new.world c.cover.new.world first c.cover.ensures.graph c.cover.ensures.grows
+
+pub branches::check_covering-returns-in_err-results-clause-after : goal.branches::check_covering-returns-in_err-results-clause-after
+branches::check_covering-returns-in_err-results-clause-after t c =
+    let base = c.args.base.now in
+    let locals = c.args.locals.now in
+    let start = c.args.world.now in
+    let first = after_start base locals start c.divide.new.world c.requires.ready c.divide.ensures.grows c.divide.ensures.sound in
+    let second = after_same base locals start c.divide.new.world c.cover.new.world first c.cover.ensures.graph c.cover.ensures.grows in
+    after_both base locals start c.cover.new.world c.check_bodies.new.world second c.check_bodies.ensures.after
+
+pub branches::check_covering-returns-in_err-union-clause-after : goal.branches::check_covering-returns-in_err-union-clause-after
+branches::check_covering-returns-in_err-union-clause-after t c =
+    let base = c.args.base.now in
+    let locals = c.args.locals.now in
+    let start = c.args.world.now in
+    let first = after_start base locals start c.divide.new.world c.requires.ready c.divide.ensures.grows c.divide.ensures.sound in
+    let second = after_same base locals start c.divide.new.world c.cover.new.world first c.cover.ensures.graph c.cover.ensures.grows in
+    let third = after_both base locals start c.cover.new.world c.check_bodies.new.world second c.check_bodies.ensures.after in
+    after_grown base locals start c.check_bodies.new.world c.union.new.world third c.union.ensures.grows c.union.ensures.sound
+
+pub branches::check_some-returns-in_err-division-clause-after : goal.branches::check_some-returns-in_err-division-clause-after
+branches::check_some-returns-in_err-division-clause-after t c =
+    let base = c.args.base.now in
+    let locals = c.args.locals.now in
+    let start = c.args.world.now in
+    after_start base locals start c.divide.new.world c.requires.ready c.divide.ensures.grows c.divide.ensures.sound
+
+pub branches::check_let-returns-in_err-left-clause-after : goal.branches::check_let-returns-in_err-left-clause-after
+branches::check_let-returns-in_err-left-clause-after t c =
+    let base = c.args.base.now in
+    let locals = c.args.locals.now in
+    let start = c.args.world.now in
+    after_grown base locals start c.check.new.world c.remaining.new.world c.check.ensures.after c.remaining.ensures.grows c.remaining.ensures.sound
+
+pub branches::check_let-returns-in_err-cover-clause-after : goal.branches::check_let-returns-in_err-cover-clause-after
+branches::check_let-returns-in_err-cover-clause-after t c =
+    let base = c.args.base.now in
+    let locals = c.args.locals.now in
+    let start = c.args.world.now in
+    let first = after_grown base locals start c.check.new.world c.remaining.new.world c.check.ensures.after c.remaining.ensures.grows
+    c.remaining.ensures.sound in
+    after_same base locals start c.remaining.new.world c.cover.new.world first c.cover.ensures.graph c.cover.ensures.grows
+
+pub branches::check_let-returns-in_err-id-clause-after : goal.branches::check_let-returns-in_err-id-clause-after
+branches::check_let-returns-in_err-id-clause-after t c =
+    let base = c.args.base.now in
+    let locals = c.args.locals.now in
+    let start = c.args.world.now in
+    let first = after_grown base locals start c.check.new.world c.remaining.new.world c.check.ensures.after c.remaining.ensures.grows
+    c.remaining.ensures.sound in
+    let second = after_same base locals start c.remaining.new.world c.cover.new.world first c.cover.ensures.graph c.cover.ensures.grows in
+    after_both base locals start c.cover.new.world c.check_body.new.world second c.check_body.ensures.after
+
+pub branches::check_try-returns-in_err-results-clause-after : goal.branches::check_try-returns-in_err-results-clause-after
+branches::check_try-returns-in_err-results-clause-after t c =
+    let base = c.args.base.now in
+    let locals = c.args.locals.now in
+    let start = c.args.world.now in
+    after_both base locals start c.check.new.world c.check_some.new.world c.check.ensures.after c.check_some.ensures.after
+
+pub branches::check_try-returns-in_err-add-clause-after : goal.branches::check_try-returns-in_err-add-clause-after
+branches::check_try-returns-in_err-add-clause-after t c =
+    let base = c.args.base.now in
+    let locals = c.args.locals.now in
+    let start = c.args.world.now in
+    after_both base locals start c.check.new.world c.check_some.new.world c.check.ensures.after c.check_some.ensures.after
+
+pub branches::check_try-returns-in_err-union-clause-after : goal.branches::check_try-returns-in_err-union-clause-after
+branches::check_try-returns-in_err-union-clause-after t c =
+    let base = c.args.base.now in
+    let locals = c.args.locals.now in
+    let start = c.args.world.now in
+    let first = after_both base locals start c.check.new.world c.check_some.new.world c.check.ensures.after c.check_some.ensures.after in
+    after_grown base locals start c.check_some.new.world c.union.new.world first c.union.ensures.grows c.union.ensures.sound
+
+pub branches::check_map-returns-in_err-need_at-clause-after : goal.branches::check_map-returns-in_err-need_at-clause-after
+branches::check_map-returns-in_err-need_at-clause-after t c =
+    let base = c.args.base.now in
+    let locals = c.args.locals.now in
+    let start = c.args.world.now in
+    after_same base locals start c.check.new.world c.need_at.new.world c.check.ensures.after c.need_at.ensures.graph c.need_at.ensures.grows
+
+pub branches::check_map-returns-in_err-matched-clause-after : goal.branches::check_map-returns-in_err-matched-clause-after
+branches::check_map-returns-in_err-matched-clause-after t c =
+    let base = c.args.base.now in
+    let locals = c.args.locals.now in
+    let start = c.args.world.now in
+    let first = after_same base locals start c.check.new.world c.need_at.new.world c.check.ensures.after c.need_at.ensures.graph
+    c.need_at.ensures.grows in
+    after_grown base locals start c.need_at.new.world c.items.new.world first c.items.ensures.grows c.items.ensures.sound
+
+pub branches::check_map-returns-in_err-result-clause-after : goal.branches::check_map-returns-in_err-result-clause-after
+branches::check_map-returns-in_err-result-clause-after t c =
+    let base = c.args.base.now in
+    let locals = c.args.locals.now in
+    let start = c.args.world.now in
+    let first = after_same base locals start c.check.new.world c.need_at.new.world c.check.ensures.after c.need_at.ensures.graph
+    c.need_at.ensures.grows in
+    let second = after_grown base locals start c.need_at.new.world c.items.new.world first c.items.ensures.grows c.items.ensures.sound in
+    after_both base locals start c.items.new.world c.check_covering.new.world second c.check_covering.ensures.after
+
+pub branches::check_map-returns-in_err-list_of-clause-after : goal.branches::check_map-returns-in_err-list_of-clause-after
+branches::check_map-returns-in_err-list_of-clause-after t c =
+    let base = c.args.base.now in
+    let locals = c.args.locals.now in
+    let start = c.args.world.now in
+    let first = after_same base locals start c.check.new.world c.need_at.new.world c.check.ensures.after c.need_at.ensures.graph
+    c.need_at.ensures.grows in
+    let second = after_grown base locals start c.need_at.new.world c.items.new.world first c.items.ensures.grows c.items.ensures.sound in
+    let third = after_both base locals start c.items.new.world c.check_covering.new.world second c.check_covering.ensures.after in
+    after_grown base locals start c.check_covering.new.world c.list_of.new.world third c.list_of.ensures.grows c.list_of.ensures.sound
+
+pub branches::check_transform-returns-in_err-need_at-clause-after : goal.branches::check_transform-returns-in_err-need_at-clause-after
+branches::check_transform-returns-in_err-need_at-clause-after t c =
+    let base = c.args.base.now in
+    let locals = c.args.locals.now in
+    let start = c.args.world.now in
+    after_same base locals start c.check.new.world c.need_at.new.world c.check.ensures.after c.need_at.ensures.graph c.need_at.ensures.grows
+
+pub branches::check_transform-returns-in_err-matched-clause-after : goal.branches::check_transform-returns-in_err-matched-clause-after
+branches::check_transform-returns-in_err-matched-clause-after t c =
+    let base = c.args.base.now in
+    let locals = c.args.locals.now in
+    let start = c.args.world.now in
+    let first = after_same base locals start c.check.new.world c.need_at.new.world c.check.ensures.after c.need_at.ensures.graph
+    c.need_at.ensures.grows in
+    after_grown base locals start c.need_at.new.world c.items.new.world first c.items.ensures.grows c.items.ensures.sound
+
+pub branches::check_transform-returns-in_err-results-clause-after : goal.branches::check_transform-returns-in_err-results-clause-after
+branches::check_transform-returns-in_err-results-clause-after t c =
+    let base = c.args.base.now in
+    let locals = c.args.locals.now in
+    let start = c.args.world.now in
+    let first = after_same base locals start c.check.new.world c.need_at.new.world c.check.ensures.after c.need_at.ensures.graph
+    c.need_at.ensures.grows in
+    let second = after_grown base locals start c.need_at.new.world c.items.new.world first c.items.ensures.grows c.items.ensures.sound in
+    after_both base locals start c.items.new.world c.check_some.new.world second c.check_some.ensures.after
+
+pub branches::check_transform-returns-in_err-lists-clause-after : goal.branches::check_transform-returns-in_err-lists-clause-after
+branches::check_transform-returns-in_err-lists-clause-after t c =
+    let base = c.args.base.now in
+    let locals = c.args.locals.now in
+    let start = c.args.world.now in
+    let first = after_same base locals start c.check.new.world c.need_at.new.world c.check.ensures.after c.need_at.ensures.graph
+    c.need_at.ensures.grows in
+    let second = after_grown base locals start c.need_at.new.world c.items.new.world first c.items.ensures.grows c.items.ensures.sound in
+    let third = after_both base locals start c.items.new.world c.check_some.new.world second c.check_some.ensures.after in
+    after_grown base locals start c.check_some.new.world c.union.new.world third c.union.ensures.grows c.union.ensures.sound
+
+pub branches::check_transform-returns-in_err-item-clause-after : goal.branches::check_transform-returns-in_err-item-clause-after
+branches::check_transform-returns-in_err-item-clause-after t c =
+    let base = c.args.base.now in
+    let locals = c.args.locals.now in
+    let start = c.args.world.now in
+    let first = after_same base locals start c.check.new.world c.need_at.new.world c.check.ensures.after c.need_at.ensures.graph
+    c.need_at.ensures.grows in
+    let second = after_grown base locals start c.need_at.new.world c.items.new.world first c.items.ensures.grows c.items.ensures.sound in
+    let third = after_both base locals start c.items.new.world c.check_some.new.world second c.check_some.ensures.after in
+    let fourth = after_grown base locals start c.check_some.new.world c.union.new.world third c.union.ensures.grows c.union.ensures.sound in
+    after_grown base locals start c.union.new.world c.items-2.new.world fourth c.items-2.ensures.grows c.items-2.ensures.sound
+
+pub branches::check_transform-returns-in_err-list_of-clause-after : goal.branches::check_transform-returns-in_err-list_of-clause-after
+branches::check_transform-returns-in_err-list_of-clause-after t c =
+    let base = c.args.base.now in
+    let locals = c.args.locals.now in
+    let start = c.args.world.now in
+    let first = after_same base locals start c.check.new.world c.need_at.new.world c.check.ensures.after c.need_at.ensures.graph
+    c.need_at.ensures.grows in
+    let second = after_grown base locals start c.need_at.new.world c.items.new.world first c.items.ensures.grows c.items.ensures.sound in
+    let third = after_both base locals start c.items.new.world c.check_some.new.world second c.check_some.ensures.after in
+    let fourth = after_grown base locals start c.check_some.new.world c.union.new.world third c.union.ensures.grows c.union.ensures.sound in
+    let fifth = after_grown base locals start c.union.new.world c.items-2.new.world fourth c.items-2.ensures.grows c.items-2.ensures.sound in
+    after_grown base locals start c.items-2.new.world c.list_of.new.world fifth c.list_of.ensures.grows c.list_of.ensures.sound
+
+pub bodies::check_bodies-returns-in_err-id-clause-after : goal.bodies::check_bodies-returns-in_err-id-clause-after
+bodies::check_bodies-returns-in_err-id-clause-after t c =
+    let base = c.args.base.now in
+    let locals = c.args.locals.now in
+    let start = c.args.world.now in
+    after_both base locals start c.loop-number.world c.check_body.new.world c.loop-number.invariant.after c.check_body.ensures.after
+
+pub bodies::check_bodies-returns-in_err-add-clause-after : goal.bodies::check_bodies-returns-in_err-add-clause-after
+bodies::check_bodies-returns-in_err-add-clause-after t c =
+    let base = c.args.base.now in
+    let locals = c.args.locals.now in
+    let start = c.args.world.now in
+    after_both base locals start c.loop-number.world c.check_body.new.world c.loop-number.invariant.after c.check_body.ensures.after
+
+pub bodies::check_body-returns-in_err-captures-clause-after : goal.bodies::check_body-returns-in_err-captures-clause-after
+bodies::check_body-returns-in_err-captures-clause-after t c =
+    let base = c.args.base.now in
+    let locals = c.args.locals.now in
+    let start = c.args.world.now in
+    after_start base locals start c.captures-2.new.world c.requires.ready c.captures-2.ensures.grows c.captures-2.ensures.sound
+
+pub bodies::check_body-returns-in_err-all-in-Some-clause-after : goal.bodies::check_body-returns-in_err-all-in-Some-clause-after
+bodies::check_body-returns-in_err-all-in-Some-clause-after t c =
+    let base = c.args.base.now in
+    let locals = c.args.locals.now in
+    let start = c.args.world.now in
+    after_start base locals start c.captures-2.new.world c.requires.ready c.captures-2.ensures.grows c.captures-2.ensures.sound
+
+pub bodies::check_body-returns-in_err-id-in-Some-clause-after : goal.bodies::check_body-returns-in_err-id-in-Some-clause-after
+bodies::check_body-returns-in_err-id-in-Some-clause-after t c =
+    let base = c.args.base.now in
+    let locals = c.args.locals.now in
+    let start = c.args.world.now in
+    after_all base locals c.as_slice.result.now start c.captures-2.new.world c.check.new.world c.requires.ready c.captures-2.ensures.grows
+    c.captures-2.ensures.sound c.check.ensures.after
+
+pub bodies::check_body-returns-in_err-keep_limit-in-Some-clause-after : goal.bodies::check_body-returns-in_err-keep_limit-in-Some-clause-after
+bodies::check_body-returns-in_err-keep_limit-in-Some-clause-after t c =
+    let base = c.args.base.now in
+    let locals = c.args.locals.now in
+    let start = c.args.world.now in
+    let second = after_all base locals c.as_slice.result.now start c.captures-2.new.world c.check.new.world c.requires.ready
+    c.captures-2.ensures.grows c.captures-2.ensures.sound c.check.ensures.after in
+    after_same base locals start c.check.new.world c.keep_limit.new.world second c.keep_limit.ensures.graph c.keep_limit.ensures.grows

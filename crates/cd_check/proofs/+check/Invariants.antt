@@ -120,7 +120,7 @@ abbrev pub decreases-bodies::check_body : goal.decreases-bodies::check_body
 decreases-bodies::check_body l = room (size (plain l.body.now)) + 4
 
 abbrev pub invariant-operands::check_exprs-loop-expr : goal.invariant-operands::check_exprs-loop-expr
-invariant-operands::check_exprs-loop-expr l = IsAfter l.base l.locals (graph_of l.fn.world) (graph_of l.world)
+invariant-operands::check_exprs-loop-expr l = IsAfter l.base l.locals l.fn.world l.world
     × GoesOn (HaveAll (scope_of l.base)) (graph_of l.fn.world) (seen_by l.base l.locals)
     (graph_of l.world) (plain_exprs l.exprs) (exprs_of (map plain (drop l.expr-index l.expr-items))) l.parts.items
     × GoesOn (ExprsLeast (scope_of l.base)) (graph_of l.fn.world) (seen_by l.base l.locals)
@@ -128,7 +128,7 @@ invariant-operands::check_exprs-loop-expr l = IsAfter l.base l.locals (graph_of 
     × FaultsOf (ExprsFault (scope_of l.base)) (plain_exprs l.exprs) (exprs_of (map plain (drop l.expr-index l.expr-items)))
 
 abbrev pub invariant-operands::check_items-loop-item : goal.invariant-operands::check_items-loop-item
-invariant-operands::check_items-loop-item l = IsAfter l.base l.locals (graph_of l.fn.world) (graph_of l.world)
+invariant-operands::check_items-loop-item l = IsAfter l.base l.locals l.fn.world l.world
     × GoesOn (ItemsHave (scope_of l.base)) (graph_of l.fn.world) (seen_by l.base l.locals)
     (graph_of l.world) (plain_items l.items) (items_of (map plain_item (drop l.item-index l.item-items))) l.parts.items
     × GoesOn (ItemsLeast (scope_of l.base)) (graph_of l.fn.world) (seen_by l.base l.locals)
@@ -136,7 +136,7 @@ invariant-operands::check_items-loop-item l = IsAfter l.base l.locals (graph_of 
     × FaultsOf (ItemsFault (scope_of l.base)) (plain_items l.items) (items_of (map plain_item (drop l.item-index l.item-items)))
 
 abbrev pub invariant-operands::check_fields-loop-field : goal.invariant-operands::check_fields-loop-field
-invariant-operands::check_fields-loop-field l = IsAfter l.base l.locals (graph_of l.fn.world) (graph_of l.world)
+invariant-operands::check_fields-loop-field l = IsAfter l.base l.locals l.fn.world l.world
     × GoesOn (FieldsHave (scope_of l.base)) (graph_of l.fn.world) (seen_by l.base l.locals)
     (graph_of l.world) (plain_fields l.fields) (fields_of (map plain_field (drop l.field-index l.field-items))) l.parts.items
     × GoesOn (FieldsLeast (scope_of l.base)) (graph_of l.fn.world) (seen_by l.base l.locals)
@@ -144,7 +144,7 @@ invariant-operands::check_fields-loop-field l = IsAfter l.base l.locals (graph_o
     × FaultsOf (FieldsFault (scope_of l.base)) (plain_fields l.fields) (fields_of (map plain_field (drop l.field-index l.field-items)))
 
 abbrev pub invariant-chain::check_arguments-loop-argument : goal.invariant-chain::check_arguments-loop-argument
-invariant-chain::check_arguments-loop-argument l = IsAfter l.base l.locals (graph_of l.fn.world) (graph_of l.world)
+invariant-chain::check_arguments-loop-argument l = IsAfter l.base l.locals l.fn.world l.world
     × LeadsOn (ArgumentsHave (scope_of l.base)) (graph_of l.fn.world) (seen_by l.base l.locals)
     (typ (graph_of l.fn.world) l.fn.function) (graph_of l.world) (exprs_of (map plain l.arguments))
     (exprs_of (map plain (drop l.argument-index l.arguments))) l.id
@@ -157,7 +157,7 @@ invariant-chain::check_arguments-loop-argument l = IsAfter l.base l.locals (grap
     (exprs_of (map plain (drop l.argument-index l.arguments))) l.id l.place)
 
 abbrev pub invariant-chain::check_tails-loop-tail : goal.invariant-chain::check_tails-loop-tail
-invariant-chain::check_tails-loop-tail l = IsAfter l.base l.locals (graph_of l.fn.world) (graph_of l.world)
+invariant-chain::check_tails-loop-tail l = IsAfter l.base l.locals l.fn.world l.world
     × LeadsOn (TailsHave (scope_of l.base)) (graph_of l.fn.world) (seen_by l.base l.locals)
     (typ (graph_of l.fn.world) l.fn.first) (graph_of l.world) (plain_tails l.tails)
     (tails_of (map plain_tail (drop l.tail-index l.tail-items))) l.id
@@ -170,10 +170,10 @@ invariant-chain::check_tails-loop-tail l = IsAfter l.base l.locals (graph_of l.f
     (tails_of (map plain_tail (drop l.tail-index l.tail-items))) l.id l.place)
 
 abbrev pub invariant-bodies::check_bodies-loop-number : goal.invariant-bodies::check_bodies-loop-number
-invariant-bodies::check_bodies-loop-number l = Done l.base l.locals (graph_of l.fn.world) l.division (plain_branches l.branches) l.branch-items l.limit
-    (graph_of l.world) l.number l.results.items
+invariant-bodies::check_bodies-loop-number l = Done l.base l.locals l.fn.world l.division (plain_branches l.branches) l.branch-items l.limit
+    l.world l.number l.results.items
 
 abbrev pub invariant-function::check_promise-loop-argument : goal.invariant-function::check_promise-loop-argument
-invariant-function::check_promise-loop-argument l = IsAfter l.base l.inner.items (graph_of l.fn.world) (graph_of l.world)
+invariant-function::check_promise-loop-argument l = IsAfter l.base l.inner.items l.fn.world l.world
     × KeptSoFar l.base l.inner.items (graph_of l.fn.world) (plain_branches (out-FunctionTree l.function).branches)
     l.argument-items (drop l.argument-index l.argument-items)

@@ -21,6 +21,10 @@ use Rattle.cd_check.specs.Inner.Bodies.{Leaves, LeavesNoMore}
 abbrev pub sited_pattern : Sited → Tree
 sited_pattern sited = plain sited.pattern.now
 
+-- the node of what its pattern takes
+abbrev pub accepted_root : Sited → NodeId
+accepted_root sited = sited.site.accepted.root
+
 abbrev pub coming_pattern : Coming → Tree
 coming_pattern coming = sited_pattern coming.sited.now
 

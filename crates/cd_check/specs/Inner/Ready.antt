@@ -9,6 +9,8 @@ use Rattle.cd_program.specs.Expr.{Program}
 use Rattle.cd_meaning.specs.Sets.{◌⊆◌, elements_of}
 use Rattle.cd_typing.specs.Later.{IsLater}
 use Rattle.cd_typing.specs.Operators.{truth}
+use Rattle.cd_empty.specs.Growth.{Grows}
+use Rattle.cd_empty.specs.Seen.{Seen as World, graph_of}
 use Rattle.cd_operators.specs.Tools.{AreTools}
 use Rattle.cd_names.specs.ProgramFaults.{Seen}
 use Rattle.cd_placed.specs.Patterns.{all_patterns}
@@ -52,7 +54,8 @@ pub record IsReady (base : Base) (graph : Graph) (locals : Nodes) : Type 0 where
   pub yes : IsTruth graph true base.yes
   pub no : IsTruth graph false base.no
 
--- a longer graph that is ready
-pub record IsAfter (base : Base) (locals : Nodes) (old new : Graph) : Type 0 where
-  pub later : IsLater old new
-  pub ready : IsReady base new locals
+-- a later world whose graph is ready
+pub record IsAfter (base : Base) (locals : Nodes) (old new : World) : Type 0 where
+  pub grows : Grows old new
+  pub later : IsLater (graph_of old) (graph_of new)
+  pub ready : IsReady base (graph_of new) locals

@@ -33,7 +33,7 @@ loop-one-preserved c =
     let index = c.loop-one.one-index in
     let one = c.one-item.result in
     let promised = one_left (IsPromised (scope_of base) old) all index one c.one-item.is c.loop-one-test.true so_far.1 in (
-      after_both base [] old now (graph_of c.check_promise.new.world) so_far.0 c.in_ok-check_promise.ensures.after,
+      after_both base [] c.args.world.now c.loop-one.world c.check_promise.new.world so_far.0 c.in_ok-check_promise.ensures.after,
       promised.1,
       (one_left (IsSoundFunction (program_of base) (names_seen base [])) all index one c.one-item.is c.loop-one-test.true so_far.2).1,
       one_shown (λ (one : FunctionNodes). PromiseKept base old [] (function_of one) one) all index one c.one-item.is c.loop-one-test.true
@@ -48,3 +48,7 @@ returns-in_err-check_promise-clause-fault c =
     rw (is.1, is.2) (function_reported c.args.functions.now c.loop-one.one-index c.one-item.result c.one-item.is c.loop-one-test.true
     (table_of c.check_promise.new.world) c.in_err-check_promise.field-0.0 (scope_of base) (graph_of c.args.world.now) (graph_of c.loop-one.world)
     c.loop-one.invariant.0.later c.requires.ready.sound (seen_by base []) c.requires.ready.nodes function_of c.in_err-check_promise.ensures.fault)
+
+pub returns-in_err-check_promise-clause-after : goal.returns-in_err-check_promise-clause-after
+returns-in_err-check_promise-clause-after c = after_both c.args.base.now [] c.args.world.now c.loop-one.world c.check_promise.new.world
+    c.loop-one.invariant.0 c.check_promise.ensures.after

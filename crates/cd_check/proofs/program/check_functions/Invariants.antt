@@ -10,7 +10,7 @@ use Rattle.cd_check.proofs.program.check_functions.Given as goal
 
 -- what is asked of all is asked of the rest, and where the rest keep what they promise, all do
 abbrev pub invariant-loop-one : goal.invariant-loop-one
-invariant-loop-one l = IsAfter l.base [] (graph_of l.fn.world) (graph_of l.world)
+invariant-loop-one l = IsAfter l.base [] l.fn.world l.world
     × AllOf (IsPromised (scope_of l.base) (graph_of l.fn.world)) (drop l.one-index l.functions)
     × AllOf (IsSoundFunction (program_of l.base) (names_seen l.base [])) (drop l.one-index l.functions)
     × (AllOf (λ one. PromiseKept l.base (graph_of l.fn.world) [] (function_of one) one) (drop l.one-index l.functions)

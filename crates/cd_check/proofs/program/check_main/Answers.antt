@@ -5,6 +5,7 @@ use Rattle.cd_model.specs.Formula.{Graph}
 use Rattle.cd_program.specs.declared.expr.ExprKind.TheViews.{out-FunctionTree}
 use Rattle.cd_resolved.specs.Resolved.{function_of}
 use Rattle.cd_empty.specs.Seen.{graph_of, table_of}
+use Rattle.cd_empty.proofs.GrowingWorlds.{and_further}
 use Rattle.cd_check.specs.Faults.{Reports}
 use Rattle.cd_check.specs.Inner.FunctionNames.{begins_at}
 use Rattle.cd_check.specs.Inner.Programs.{ResultsFault}
@@ -27,3 +28,7 @@ returns-in_err-check_results-clause-fault c =
     (subst (λ (arrows : List (NodeId × NodeId)). Reports table (ResultsFault old at arrows) error) c.as_slice.ensures.value
     (subst (λ (graph : Graph). Reports table (ResultsFault graph at c.as_slice.result.now) error) c.loop-one.invariant.0
     c.in_err-check_results.ensures.fault))))
+
+pub returns-in_err-check_results-clause-grows : goal.returns-in_err-check_results-clause-grows
+returns-in_err-check_results-clause-grows c = and_further c.args.world.now c.loop-one.world c.check_results.new.world c.loop-one.invariant.3
+    c.check_results.ensures.grows

@@ -5,6 +5,7 @@ use Rattle.cd_model.specs.BuiltIns.{DATA}
 use Rattle.cd_model.specs.Formula.{Graph}
 use Rattle.cd_meaning.specs.Sets.{◌⊆◌, elements_of}
 use Rattle.cd_empty.specs.Seen.{graph_of, table_of}
+use Rattle.cd_empty.proofs.GrowingWorlds.{and_further}
 use Rattle.cd_check.specs.Faults.{Reports}
 use Rattle.cd_check.specs.Inner.Programs.{ResultsFault}
 use Rattle.cd_check.proofs.FunctionsKept.{at_any}
@@ -26,6 +27,7 @@ loop-arrow-preserved c =
           c.loop-arrow-test.true so_far.2,
       shown_after (λ (one : NodeId × NodeId). elements_of old one.1 ⊆ elements_of old DATA) all index _ c.loop-arrow-test.true
           (within_same (graph_of c.loop-arrow.world) old so_far.0 _ DATA c.in_ok-need_at.ensures.within) so_far.3,
+      and_further c.args.world.now c.loop-arrow.world c.need_at.new.world so_far.4 c.in_ok-need_at.ensures.grows,
     )
 
 pub returns-in_err-need_at-clause-fault : goal.returns-in_err-need_at-clause-fault
@@ -39,3 +41,7 @@ returns-in_err-need_at-clause-fault c =
     rw (is.1, is.2) (subst (λ (graph : Graph). Reports table (ResultsFault graph c.args.at all) error) c.loop-arrow.invariant.0
     (result_reported all index (get_or all index none) (at_any all index none (get_or all index none) c.loop-arrow-test.true) c.loop-arrow-test.true
     table error (graph_of c.loop-arrow.world) c.args.at c.in_err-need_at.ensures.fault))
+
+pub returns-in_err-need_at-clause-grows : goal.returns-in_err-need_at-clause-grows
+returns-in_err-need_at-clause-grows c = and_further c.args.world.now c.loop-arrow.world c.need_at.new.world c.loop-arrow.invariant.4
+    c.need_at.ensures.grows

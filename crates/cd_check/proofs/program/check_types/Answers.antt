@@ -1,16 +1,23 @@
 use Rattle.std.proofs.Common.{◌≡◌, ◌∙◌, List, map, ap, sym, subst}
 use Rattle.std.proofs.lemmas.Result.{err_from_is_err_and}
+use Rattle.cd_syntax.specs.TypeTree.{Tree}
 use Rattle.cd_sets.specs.declared.node_id.NodeId.{NodeId}
 use Rattle.cd_model.specs.AllOf.{AllOf}
 use Rattle.cd_model.specs.Formula.{Graph}
 use Rattle.cd_program.specs.Expr.{Program}
 use Rattle.cd_empty.specs.Seen.{graph_of, table_of}
+use Rattle.cd_empty.proofs.GrowingWorlds.{and_further}
 use Rattle.cd_typing.specs.Typed.{scope_of as scope_of_program}
 use Rattle.cd_typing.proofs.Later.{later_still}
+use Rattle.cd_typing.proofs.TypesKept.{typed_within}
+use Rattle.cd_matched.specs.Accepted.{AreAccepted}
+use Rattle.cd_placed.specs.Patterns.{all_patterns}
 use Rattle.cd_resolved.specs.Resolved.{Extends, function_nodes, program_of as program_in}
 use Rattle.cd_check.specs.declared.base.Base.{Base}
 use Rattle.cd_check.specs.declared.sites.Sited.{Sited}
-use Rattle.cd_check.specs.Inner.Divided.{AreSited, sited_pattern}
+use Rattle.cd_check.specs.Inner.Divided.{AreSited, sited_pattern, accepted_root}
+use Rattle.cd_check.proofs.Divided.{all_sited_later}
+use Rattle.cd_check.proofs.PatternsAccepted.{all_accepted}
 use Rattle.cd_check.specs.Inner.Environment.{AreNodes}
 use Rattle.cd_check.specs.Inner.FunctionNames.{function_names}
 use Rattle.cd_check.specs.Inner.Promises.{IsPromised}
@@ -107,18 +114,45 @@ returns-clause-typed c =
     (graph_of c.check_functions.new.world) ready.more ready.begins ready.sound checked.after.later
     (first_ones known base.base base.ensures.resolved based ready.promised) checked.kept c.in_ok-check_main.ensures.main
 
+-- a node of what each pattern takes, in the graph after the checks
+pub matched_nodes-requires-clause-accepted : goal.matched_nodes-requires-clause-accepted
+matched_nodes-requires-clause-accepted c =
+    let program = program_in c.args.program.now in
+    let scope = scope_of_program program in
+    let sited = graph_of c.sites_of.new.world in
+    let based = graph_of c.base_of.new.world in
+    let last = graph_of c.check_functions.new.world in
+    let sites = c.in_ok-sites.sites.items in
+    let later = later_still sited based last
+    (later_of c.sites_of.new.world c.base_of.new.world c.in_ok-base.ensures.grows c.in_ok-base.ensures.sound)
+    c.in_ok-check_functions.ensures.after.later in
+    subst (λ (graph : Graph). AreAccepted scope graph (all_patterns program) c.as_slice-4.result.now) (sym c.in_ok-check_main.ensures.graph)
+    (subst (λ (ids : List NodeId). AreAccepted scope last (all_patterns program) ids)
+    (sym (c.as_slice-4.ensures.value ∙ c.in_ok-accepted.ensures ∙ ap (λ (all : List Sited). map accepted_root all) c.as_slice-3.ensures.value))
+    (subst (λ (patterns : List Tree). AreAccepted scope last patterns (map accepted_root sites)) c.in_ok-sites.ensures.patterns
+    (all_accepted scope last sites (all_sited_later sited last later scope sites c.in_ok-sites.ensures.sited))))
+
+pub returns-clause-checked : goal.returns-clause-checked
+returns-clause-checked c = let program = program_in c.args.program.now in record {
+  matched = c.in_ok-matched.ensures.matched;
+  within = typed_within program (graph_of c.matched_nodes.new.world) c.in_ok-matched.matched.items c.in_ok-matched.ensures.matched
+      (returns-clause-typed c);
+}
+
 pub returns-clause-begins : goal.returns-clause-begins
 returns-clause-begins c =
     let start = graph_of c.args.world.now in
     let sited = graph_of c.sites_of.new.world in
     let based = graph_of c.base_of.new.world in
     let last = graph_of c.check_functions.new.world in
-    subst (λ (graph : Graph). Extends c.args.program.now graph) (sym c.in_ok-check_main.ensures.graph)
+    extends_later c.args.program.now (graph_of c.check_main.new.world) (graph_of c.matched_nodes.new.world)
+    (subst (λ (graph : Graph). Extends c.args.program.now graph) (sym c.in_ok-check_main.ensures.graph)
     (extends_later c.args.program.now start last c.requires.begins (later_still start sited last
     (later_of c.args.world.now c.sites_of.new.world c.in_ok-sites.ensures.grows c.in_ok-sites.ensures.sound)
     (later_still sited based last
     (later_of c.sites_of.new.world c.base_of.new.world c.in_ok-base.ensures.grows c.in_ok-base.ensures.sound)
-    c.in_ok-check_functions.ensures.after.later)))
+    c.in_ok-check_functions.ensures.after.later))))
+    (later_of c.check_main.new.world c.matched_nodes.new.world c.in_ok-matched.ensures.grows c.in_ok-matched.ensures.sound)
 
 -- what the checks report is a fault of the program
 pub returns-in_err-check_functions-clause-fault : goal.returns-in_err-check_functions-clause-fault
@@ -146,3 +180,44 @@ returns-in_err-check_main-clause-fault c =
     (same_ids known base.base base.ensures.interfaces) c.requires.resolved.well_made last after.ready.more after.ready.begins after.ready.sound
     (first_ones known base.base base.ensures.resolved last after.ready.promised) (table_of c.check_main.new.world)
     c.in_err-check_main.field-0.0 c.in_err-check_main.ensures.fault)
+
+-- each step leaves a world that grew
+pub returns-in_err-base-clause-grows : goal.returns-in_err-base-clause-grows
+returns-in_err-base-clause-grows c = and_further c.args.world.now c.sites_of.new.world c.base_of.new.world c.sites_of.ensures.grows
+    c.base_of.ensures.grows
+
+pub returns-in_err-check_functions-clause-grows : goal.returns-in_err-check_functions-clause-grows
+returns-in_err-check_functions-clause-grows c =
+    let start = c.args.world.now in
+    let first = and_further start c.sites_of.new.world c.base_of.new.world c.sites_of.ensures.grows c.base_of.ensures.grows in
+    and_further start c.base_of.new.world c.check_functions.new.world first c.check_functions.ensures.after.grows
+
+pub returns-in_err-check_main-clause-grows : goal.returns-in_err-check_main-clause-grows
+returns-in_err-check_main-clause-grows c =
+    let start = c.args.world.now in
+    let first = and_further start c.sites_of.new.world c.base_of.new.world c.sites_of.ensures.grows c.base_of.ensures.grows in
+    let second = and_further start c.base_of.new.world c.check_functions.new.world first c.check_functions.ensures.after.grows in
+    and_further start c.check_functions.new.world c.check_main.new.world second c.check_main.ensures.grows
+
+pub returns-in_err-accepted-clause-grows : goal.returns-in_err-accepted-clause-grows
+returns-in_err-accepted-clause-grows c =
+    let start = c.args.world.now in
+    let first = and_further start c.sites_of.new.world c.base_of.new.world c.sites_of.ensures.grows c.base_of.ensures.grows in
+    let second = and_further start c.base_of.new.world c.check_functions.new.world first c.check_functions.ensures.after.grows in
+    and_further start c.check_functions.new.world c.check_main.new.world second c.check_main.ensures.grows
+
+pub returns-in_err-matched-clause-grows : goal.returns-in_err-matched-clause-grows
+returns-in_err-matched-clause-grows c =
+    let start = c.args.world.now in
+    let first = and_further start c.sites_of.new.world c.base_of.new.world c.sites_of.ensures.grows c.base_of.ensures.grows in
+    let second = and_further start c.base_of.new.world c.check_functions.new.world first c.check_functions.ensures.after.grows in
+    let third = and_further start c.check_functions.new.world c.check_main.new.world second c.check_main.ensures.grows in
+    and_further start c.check_main.new.world c.matched_nodes.new.world third c.matched_nodes.ensures.grows
+
+pub returns-clause-grows : goal.returns-clause-grows
+returns-clause-grows c =
+    let start = c.args.world.now in
+    let first = and_further start c.sites_of.new.world c.base_of.new.world c.sites_of.ensures.grows c.base_of.ensures.grows in
+    let second = and_further start c.base_of.new.world c.check_functions.new.world first c.check_functions.ensures.after.grows in
+    let third = and_further start c.check_functions.new.world c.check_main.new.world second c.check_main.ensures.grows in
+    and_further start c.check_main.new.world c.matched_nodes.new.world third c.matched_nodes.ensures.grows

@@ -1,0 +1,2 @@
+mod BranchPatterns
+mod SitesMatched

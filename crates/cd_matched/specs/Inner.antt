@@ -1,0 +1,2 @@
+-- What serves private functions. No public clause speaks of it.
+pub mod AsksTaken
