@@ -2,6 +2,7 @@
 use Rattle.std.proofs.Common.{◌≡◌, ◌<◌, ℕ, zero, suc, List, [], ◌∷◌, ◌++◌, length, refl, sym, ap, subst, ◌∙◌, arith}
 use Rattle.cd_syntax.specs.Name.{IsLabel}
 use Rattle.cd_model.specs.AllOf.{AllOf}
+use Rattle.cd_model.proofs.Covered.{each_both}
 use Rattle.cd_model.specs.Thing.{IsRecord}
 use Rattle.cd_cells.specs.Cells.{name_at, fields_of, IsPart}
 use Rattle.cd_cells.specs.Table.{table, names, Grows}
@@ -36,6 +37,12 @@ each_at Fact (first ∷ all) (suc number) each none = each_at Fact all number ea
 pub parts_of_env : (values : Values) (environments : List (List Part)) (number : ℕ) → AllOf (ArePartsOf values) environments
     → ArePartsOf values (parts_at environments number)
 parts_of_env values environments number each = each_at (ArePartsOf values) environments number each tt
+
+-- an environment was added: one more part before those of another one
+pub each_added : (values : Values) (all new : List (List Part)) (part : Part) (around : ℕ) → new ≡ all ++ (part ∷ parts_at all around) ∷ []
+    → AllOf (ArePartsOf values) all → ArePartsOf values (part ∷ []) → AllOf (ArePartsOf values) new
+each_added values all new part around is each one = subst (AllOf (ArePartsOf values)) (sym is)
+    (each_both (ArePartsOf values) all ((part ∷ parts_at all around) ∷ []) each ((one.0, parts_of_env values all around each), tt))
 
 module _ (old new : Values) (grows : Grows old new) where
   pub parts_stay : (parts : List Part) → ArePartsOf old parts → env_of new parts ≡ env_of old parts

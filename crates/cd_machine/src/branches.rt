@@ -1,5 +1,5 @@
 //! The branch that takes a value.
-ghost use Rattle.std.specs.Prelude.{◌≡◌, ◌<◌, length, IfOk, OnOk, IfSome};
+ghost use Rattle.std.specs.Prelude.{◌≡◌, ◌<◌, length, IfOk, IfSome};
 ghost use Rattle.cd_syntax.specs.PlainTree.{plain as plain_tree};
 ghost use Rattle.cd_program.specs.PlainExpr.{plain, plain_branch, plain_branches};
 ghost use Rattle.cd_cells.specs.Cells.{thing_at};
@@ -48,8 +48,8 @@ pub(crate) fn choose<'p>(
         (env_at values.new environments.new env)
         (plain_choice values.new environments.new entry)) }
     ensures within { IfOk result (IsEntry environments.new) }
-    ensures after { OnOk result (IsAfter code.old values.old environments.old
-        code.new values.new environments.new) }
+    ensures after { IsAfter code.old values.old environments.old
+        code.new values.new environments.new }
 {
     for branch in branches.items() {
         if let Some(entry) = try_branch(code, values, environments, branch, id, env)? {
@@ -77,8 +77,8 @@ fn try_branch<'p>(
         (env_at values.new environments.new env) (thing_at (table values.old) id.0)
         (plain_choice values.new environments.new entry)) }
     ensures within { IfOk result (IsEntry environments.new) }
-    ensures after { OnOk result (IsAfter code.old values.old environments.old
-        code.new values.new environments.new) }
+    ensures after { IsAfter code.old values.old environments.old
+        code.new values.new environments.new }
 {
     let_in(
         code,
@@ -110,8 +110,8 @@ pub(crate) fn let_in<'p>(
         (thing_at (table values.old) id.0)
         (plain_choice values.new environments.new entry)) }
     ensures within { IfOk result (IsEntry environments.new) }
-    ensures after { OnOk result (IsAfter code.old values.old environments.old
-        code.new values.new environments.new) }
+    ensures after { IsAfter code.old values.old environments.old
+        code.new values.new environments.new }
 {
     match try_pattern(code, values, environments, pattern, id, env)? {
         Some(env) => Ok(Some(Entry { body, env })),
@@ -137,8 +137,8 @@ fn try_pattern(
         (plain_tree pattern.now) (thing_at (table values.old) id.0)
         (env_at values.new environments.new env)) }
     ensures within { IfOk result (λ found. IfSome found (λ e. e.0 < length environments.new)) }
-    ensures after { OnOk result (IsAfter code.old values.old environments.old
-        code.new values.new environments.new) }
+    ensures after { IsAfter code.old values.old environments.old
+        code.new values.new environments.new }
 {
     if !code.take(values, pattern, id)? {
         return Ok(None);

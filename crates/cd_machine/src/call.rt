@@ -1,5 +1,5 @@
 //! The application of a function.
-ghost use Rattle.std.specs.Prelude.{◌≡◌, ◌<◌, length, option_map, IfOk, OnOk};
+ghost use Rattle.std.specs.Prelude.{◌≡◌, ◌<◌, length, option_map, IfOk};
 ghost use Rattle.cd_program.specs.PlainExpr.{plain_branches, plain_function};
 ghost use Rattle.cd_program.specs.WellMade.{IsWellMadeName};
 ghost use Rattle.cd_cells.specs.Cells.{thing_at};
@@ -37,8 +37,8 @@ pub(crate) fn apply<'p>(
         (thing_at (table values.new) function.0) (thing_at (table values.new) id.0)
         (plain_choice values.new environments.new entry)) }
     ensures within { IfOk result (IsEntry environments.new) }
-    ensures after { OnOk result (IsAfter code.old values.old environments.old
-        code.new values.new environments.new) }
+    ensures after { IsAfter code.old values.old environments.old
+        code.new values.new environments.new }
 {
     let Look::Closure(at, parts) = values.look(function) else {
         return Ok(None);
@@ -79,8 +79,8 @@ fn enter_function<'p>(
         (env_at values.new environments.new inner) (thing_at (table values.new) id.0)
         (plain_choice values.new environments.new entry)) }
     ensures within { IfOk result (IsEntry environments.new) }
-    ensures after { OnOk result (IsAfter code.old values.old environments.old
-        code.new values.new environments.new) }
+    ensures after { IsAfter code.old values.old environments.old
+        code.new values.new environments.new }
 {
     enter_branches(
         code,
@@ -116,8 +116,8 @@ fn enter_branches<'p>(
         (env_at values.new environments.new function.1))
         (plain_choice values.new environments.new entry)) }
     ensures within { IfOk result (IsEntry environments.new) }
-    ensures after { OnOk result (IsAfter code.old values.old environments.old
-        code.new values.new environments.new) }
+    ensures after { IsAfter code.old values.old environments.old
+        code.new values.new environments.new }
 {
     let (function, inner) = function;
     let env = with_own_name(code, values, environments, name, function, inner)?;
@@ -142,8 +142,8 @@ fn with_own_name(
         ≡ with_name name.now (thing_at (table values.new) function.0)
         (env_at values.new environments.new inner)) }
     ensures within { IfOk result (λ env. env.0 < length environments.new) }
-    ensures after { OnOk result (IsAfter code.now values.old environments.old
-        code.now values.new environments.new) }
+    ensures after { IsAfter code.now values.old environments.old
+        code.now values.new environments.new }
 {
     let _code = code;
     match name {

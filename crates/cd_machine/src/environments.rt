@@ -78,6 +78,9 @@ impl Environments {
         ensures number { IfOk result (λ id. id.0 ≡ length self.old) }
         ensures added { OnOk result
             (self.new ≡ self.old ++ (part ∷ parts_at self.old around.0) ∷ []) }
+        ensures grows { Longer self.old self.new }
+        ensures each { (values : AllValues) → AllOf (ArePartsOf values) self.old
+            → ArePartsOf values (part ∷ []) → AllOf (ArePartsOf values) self.new }
     {
         self.nodes.push(Node {
             part,
@@ -92,9 +95,9 @@ impl Environments {
         ensures within { IfOk result (λ id. id.0 < length self.new) }
         ensures is { IfOk result (λ id.
             parts_at self.new id.0 ≡ parts.now ++ parts_at self.old around.0) }
-        ensures grows { OnOk result (Longer self.old self.new) }
-        ensures each { OnOk result ((values : AllValues) → AllOf (ArePartsOf values) self.old
-            → ArePartsOf values parts.now → AllOf (ArePartsOf values) self.new) }
+        ensures grows { Longer self.old self.new }
+        ensures each { (values : AllValues) → AllOf (ArePartsOf values) self.old
+            → ArePartsOf values parts.now → AllOf (ArePartsOf values) self.new }
     {
         let mut env = around;
         let mut left = parts;
@@ -109,9 +112,9 @@ impl Environments {
     pub(crate) fn of_parts(&mut self, parts: &[Part]) -> Result<EnvId, AllocError>
         ensures within { IfOk result (λ id. id.0 < length self.new) }
         ensures is { IfOk result (λ id. parts_at self.new id.0 ≡ parts.now) }
-        ensures grows { OnOk result (Longer self.old self.new) }
-        ensures each { OnOk result ((values : AllValues) → AllOf (ArePartsOf values) self.old
-            → ArePartsOf values parts.now → AllOf (ArePartsOf values) self.new) }
+        ensures grows { Longer self.old self.new }
+        ensures each { (values : AllValues) → AllOf (ArePartsOf values) self.old
+            → ArePartsOf values parts.now → AllOf (ArePartsOf values) self.new }
     {
         // The environments are known where a field of them is read.
         let _count = self.nodes.len();

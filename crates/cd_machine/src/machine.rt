@@ -4,7 +4,7 @@ ghost use Rattle.cd_model.specs.AllOf.{AllOf};
 ghost use Rattle.cd_model.specs.Thing.{NoField};
 ghost use Rattle.cd_program.specs.Expr.{NoExpr};
 ghost use Rattle.cd_cells.specs.Cells.{thing_at};
-ghost use Rattle.cd_cells.specs.Table.{table, Grows};
+ghost use Rattle.cd_cells.specs.Table.{table};
 ghost use Rattle.cd_cells.specs.declared.values.Values.{Values as AllValues};
 ghost use Rattle.cd_evaluation.specs.Machine.{Argument};
 ghost use Rattle.cd_machine.specs.PlainRan.{IsOutcome};
@@ -77,8 +77,8 @@ impl<'p> Machine<'p> {
         ensures turns { IfOk result (TurnsOrEnds code.new values.new self.new.environments
             (plain_control values.old self.old.environments control.entry)
             (plain_frames values.old self.old.environments self.old.stack) self.new.stack) }
-        ensures after { OnOk result (IsAfter code.old values.old self.old.environments
-            code.new values.new self.new.environments) }
+        ensures after { IsAfter code.old values.old self.old.environments
+            code.new values.new self.new.environments }
     {
         match control {
             Control::Evaluating(expr, env) => {
@@ -132,8 +132,8 @@ impl<'p> Machine<'p> {
         ensures stops { IfOk result (Stops code.new values.new self.new.environments
             (plain_control values.old self.old.environments control.entry)
             (plain_frames values.old self.old.environments self.old.stack) self.new.stack) }
-        ensures after { OnOk result (IsAfter code.old values.old self.old.environments
-            code.new values.new self.new.environments) }
+        ensures after { IsAfter code.old values.old self.old.environments
+            code.new values.new self.new.environments }
     {
         let mut control = control;
         'free: loop {
@@ -163,7 +163,8 @@ impl<'p> Machine<'p> {
             (plain_frames values.old self.old.environments self.old.stack)) }
         ensures within { IfOk result
             (λ ran. IsOutcome (length (table values.new)) ran.outcome) }
-        ensures grows { OnOk result (Grows values.old values.new) }
+        ensures after { IsAfter code.old values.old self.old.environments
+            code.new values.new self.new.environments }
     {
         let mut control = control;
         let mut units = units;

@@ -1,5 +1,5 @@
 //! `map` and `transform`, from one item of a sequence to the next.
-ghost use Rattle.std.specs.Prelude.{◌<◌, ◌∷◌, length, IfOk, OnOk};
+ghost use Rattle.std.specs.Prelude.{◌<◌, ◌∷◌, length, IfOk};
 ghost use Rattle.cd_matching.specs.Sequences.{items};
 ghost use Rattle.cd_program.specs.PlainExpr.{plain_branches};
 ghost use Rattle.cd_cells.specs.Cells.{thing_at};
@@ -39,8 +39,8 @@ pub(crate) fn map<'p>(
         (env_at values.new environments.new env) (items (thing_at (table values.new) id.0))
         (plain_turn values.new environments.new turn)) }
     ensures within { IfOk result (IsTurn values.new environments.new) }
-    ensures after { OnOk result (IsAfter code.old values.old environments.old
-        code.new values.new environments.new) }
+    ensures after { IsAfter code.old values.old environments.old
+        code.new values.new environments.new }
 {
     if !is_sequence(values, id) {
         return Ok(Turn::give(Outcome::Stuck));
@@ -72,8 +72,8 @@ pub(crate) fn map_next<'p>(
         (items_at values.new environments.new parts.1)
         (plain_turn values.new environments.new turn)) }
     ensures within { IfOk result (IsTurn values.new environments.new) }
-    ensures after { OnOk result (IsAfter code.old values.old environments.old
-        code.new values.new environments.new) }
+    ensures after { IsAfter code.old values.old environments.old
+        code.new values.new environments.new }
 {
     let (done, left) = parts;
     let done = values.pair(id, done)?;
@@ -100,8 +100,8 @@ fn map_on<'p>(
         (items_at values.new environments.new left)
         (plain_turn values.new environments.new turn)) }
     ensures within { IfOk result (IsTurn values.new environments.new) }
-    ensures after { OnOk result (IsAfter code.old values.old environments.old
-        code.new values.new environments.new) }
+    ensures after { IsAfter code.old values.old environments.old
+        code.new values.new environments.new }
 {
     match pair_at(values, left) {
         None => Ok(Turn::give(Outcome::Done(in_order(values, done)?))),

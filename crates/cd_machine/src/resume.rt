@@ -1,5 +1,5 @@
 //! What is done next where an outcome comes to what waits for it.
-ghost use Rattle.std.specs.Prelude.{◌≡◌, ◌<◌, length, IfOk, OnOk};
+ghost use Rattle.std.specs.Prelude.{◌≡◌, ◌<◌, length, IfOk};
 ghost use Rattle.cd_cells.specs.Cells.{thing_at};
 ghost use Rattle.cd_cells.specs.Table.{table};
 ghost use Rattle.cd_machine.specs.Inner.CodeIn.{code_in, IsPatternIn};
@@ -43,8 +43,8 @@ pub(crate) fn resume<'p>(
         (plain_outcome (table values.new) outcome)
         (plain_turn values.new environments.new turn)) }
     ensures within { IfOk result (IsTurn values.new environments.new) }
-    ensures after { OnOk result (IsAfter code.old values.old environments.old
-        code.new values.new environments.new) }
+    ensures after { IsAfter code.old values.old environments.old
+        code.new values.new environments.new }
 {
     match outcome {
         Outcome::Done(id) => resume_with(alloc, code, values, environments, frame, id),
@@ -74,8 +74,8 @@ fn resume_with<'p>(
         (thing_at (table values.new) id.0)
         (plain_turn values.new environments.new turn)) }
     ensures within { IfOk result (IsTurn values.new environments.new) }
-    ensures after { OnOk result (IsAfter code.old values.old environments.old
-        code.new values.new environments.new) }
+    ensures after { IsAfter code.old values.old environments.old
+        code.new values.new environments.new }
 {
     match frame {
         Frame::First(next, rest, env) => Ok(next_part(values, next, rest, env, id)),
@@ -145,8 +145,8 @@ fn catch<'p>(
         (thing_at (table values.new) id.0)
         (plain_turn values.new environments.new turn)) }
     ensures within { IfOk result (IsTurn values.new environments.new) }
-    ensures after { OnOk result (IsAfter code.old values.old environments.old
-        code.new values.new environments.new) }
+    ensures after { IsAfter code.old values.old environments.old
+        code.new values.new environments.new }
 {
     match frame {
         Frame::Trying(branches, env) => {

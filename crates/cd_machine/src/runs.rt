@@ -1,5 +1,5 @@
 //! Runs of programs.
-ghost use Rattle.std.specs.Prelude.{◌≡◌, ◌<◌, ℕ, Some, codes, length, IfOk, OnOk};
+ghost use Rattle.std.specs.Prelude.{◌≡◌, ◌<◌, ℕ, Some, codes, length, IfOk};
 ghost use Rattle.cd_model.specs.Thing.{Closure, NoField};
 ghost use Rattle.cd_program.specs.Expr.{FunctionTree};
 ghost use Rattle.cd_program.specs.WellMade.{IsWellMadeProgram};
@@ -41,7 +41,9 @@ pub fn run<'p>(
         → Meaning (code_of (program_of code.old)) (Closure (place_of main) NoField)
         (thing_at (table values.old) document.0) units (plain_ran (table values.new) ran)) }
     ensures within { IfOk result (λ ran. IsOutcome (length (table values.new)) ran.outcome) }
-    ensures grows { OnOk result (Grows values.old values.new) }
+    ensures ready { IsReady (names values.new) code.new }
+    ensures program { program_of code.new ≡ program_of code.old }
+    ensures grows { Grows values.old values.new }
 {
     let Some(at) = code.declared("main") else {
         unreachable!();

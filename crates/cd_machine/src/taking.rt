@@ -1,5 +1,5 @@
 //! What is done next where patterns are tried with a value that comes.
-ghost use Rattle.std.specs.Prelude.{◌≡◌, ◌<◌, ◌∷◌, [], length, map, IfOk, OnOk};
+ghost use Rattle.std.specs.Prelude.{◌≡◌, ◌<◌, ◌∷◌, [], length, map, IfOk};
 ghost use Rattle.cd_syntax.specs.PlainTree.{plain as plain_tree};
 ghost use Rattle.cd_program.specs.Expr.{exprs_of};
 ghost use Rattle.cd_program.specs.PlainExpr.{plain, plain_branches};
@@ -48,8 +48,8 @@ pub(crate) fn take_argument<'p>(
         (env_at values.new environments.new env) ∷ []) (give runs.Stuck)
         (plain_turn values.new environments.new turn)) }
     ensures within { IfOk result (IsTurn values.new environments.new) }
-    ensures after { OnOk result (IsAfter code.old values.old environments.old
-        code.new values.new environments.new) }
+    ensures after { IsAfter code.old values.old environments.old
+        code.new values.new environments.new }
 {
     let entry = apply(code, values, environments, function, id)?;
     let frame = Frame::Called(arguments, env);
@@ -74,8 +74,8 @@ pub(crate) fn take_match<'p>(
         (thing_at (table values.new) id.0) (env_at values.new environments.new env))
         [] (give runs.Stuck) (plain_turn values.new environments.new turn)) }
     ensures within { IfOk result (IsTurn values.new environments.new) }
-    ensures after { OnOk result (IsAfter code.old values.old environments.old
-        code.new values.new environments.new) }
+    ensures after { IsAfter code.old values.old environments.old
+        code.new values.new environments.new }
 {
     let entry = choose(code, values, environments, branches, id, env)?;
     Ok(entered(entry, None, Outcome::Stuck))
@@ -100,8 +100,8 @@ pub(crate) fn take_raised<'p>(
         [] (give (runs.Raised (thing_at (table values.new) id.0)))
         (plain_turn values.new environments.new turn)) }
     ensures within { IfOk result (IsTurn values.new environments.new) }
-    ensures after { OnOk result (IsAfter code.old values.old environments.old
-        code.new values.new environments.new) }
+    ensures after { IsAfter code.old values.old environments.old
+        code.new values.new environments.new }
 {
     let entry = choose(code, values, environments, branches, id, env)?;
     Ok(entered(entry, None, Outcome::Raised(id)))
@@ -126,8 +126,8 @@ pub(crate) fn take_let<'p>(
         (env_at values.new environments.new env) (thing_at (table values.new) id.0))
         [] (give runs.Stuck) (plain_turn values.new environments.new turn)) }
     ensures within { IfOk result (IsTurn values.new environments.new) }
-    ensures after { OnOk result (IsAfter code.old values.old environments.old
-        code.new values.new environments.new) }
+    ensures after { IsAfter code.old values.old environments.old
+        code.new values.new environments.new }
 {
     let entry = let_in(code, values, environments, pattern, rest, id, env)?;
     Ok(entered(entry, None, Outcome::Stuck))

@@ -68,3 +68,8 @@ returns-in-Some-clause-chooses c =
     (thing_grown old new (further old c.loop-branch.values new before.grows tried.after.grows) c.args.id.0 c.requires.value)
     (ap (plain_choice new c.try_branch.new.environments) c.in-Some.is)
     (begins at) c.loop-branch.invariant.picks tried.lets
+
+-- memory ran out at a branch
+pub returns-in_err-entry-clause-after : goal.returns-in_err-entry-clause-after
+returns-in_err-entry-clause-after c = after_then c.args.code.now c.args.values.now c.args.environments.now c.loop-branch.code c.loop-branch.values
+    c.loop-branch.environments c.try_branch.new.code c.try_branch.new.values c.try_branch.new.environments c.loop-branch.invariant.after c.try_branch.ensures.after

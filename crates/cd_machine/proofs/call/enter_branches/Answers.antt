@@ -31,5 +31,8 @@ returns-clause-chooses c =
 
 pub returns-clause-after : goal.returns-clause-after
 returns-clause-after c = after_then c.args.code.now c.args.values.now c.args.environments.now c.args.code.now c.with_own_name.new.values
-    c.with_own_name.new.environments c.choose.new.code c.choose.new.values c.choose.new.environments (c.in_ok-env.ensures {u = tt}).after
-    (c.in_ok-entry.ensures {u = tt}).after
+    c.with_own_name.new.environments c.choose.new.code c.choose.new.values c.choose.new.environments c.with_own_name.ensures.after c.choose.ensures.after
+
+pub returns-in_err-entry-clause-after : goal.returns-in_err-entry-clause-after
+returns-in_err-entry-clause-after c = after_then c.args.code.now c.args.values.now c.args.environments.now c.args.code.now c.with_own_name.new.values
+    c.with_own_name.new.environments c.choose.new.code c.choose.new.values c.choose.new.environments c.with_own_name.ensures.after c.choose.ensures.after

@@ -38,4 +38,11 @@ returns-clause-maps c =
 
 pub returns-clause-after : goal.returns-clause-after
 returns-clause-after c = after_then c.args.code.now c.args.values.now c.args.environments.now c.args.code.now c.nil.new.self c.args.environments.now
-    c.map_on.new.code c.map_on.new.values c.map_on.new.environments (ready (goal.at.returns-clause-after c).In_ok-none) (c.in_ok-map_on.ensures {u = tt}).after
+    c.map_on.new.code c.map_on.new.values c.map_on.new.environments (ready (goal.at.returns-clause-after c).In_ok-none) c.map_on.ensures.after
+
+pub returns-in_err-map_on-clause-after : goal.returns-in_err-map_on-clause-after
+returns-in_err-map_on-clause-after c = after_then c.args.code.now c.args.values.now c.args.environments.now c.args.code.now c.nil.new.self c.args.environments.now
+    c.map_on.new.code c.map_on.new.values c.map_on.new.environments (ready (goal.at.returns-in_err-map_on-clause-after c).In_ok-none) c.map_on.ensures.after
+
+pub returns-in_err-none-clause-after : goal.returns-in_err-none-clause-after
+returns-in_err-none-clause-after c = after_values c.args.code.now c.args.values.now c.nil.new.self c.args.environments.now c.requires.order c.nil.ensures.grows

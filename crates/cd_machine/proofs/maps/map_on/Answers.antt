@@ -47,3 +47,7 @@ returns-in_ok-entry-in-Some-clause-within c =
 pub returns-in_ok-in_order-in-None-clause-after : goal.returns-in_ok-in_order-in-None-clause-after
 returns-in_ok-in_order-in-None-clause-after c = after_values c.args.code.now c.args.values.now c.in_order.new.values c.args.environments.now c.requires.order
     (c.in_ok-in_order-in-None.ensures {u = tt}).grows
+
+pub returns-in_err-in_order-in-None-clause-after : goal.returns-in_err-in_order-in-None-clause-after
+returns-in_err-in_order-in-None-clause-after c = after_values c.args.code.now c.args.values.now c.in_order.new.values c.args.environments.now c.requires.order
+    c.in_order.ensures.grows

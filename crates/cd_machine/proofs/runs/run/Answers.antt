@@ -15,7 +15,7 @@ use Rattle.cd_machine.proofs.CodeReady.{still_ready}
 use Rattle.cd_machine.proofs.KnownProgram.{code_known}
 use Rattle.cd_machine.proofs.Literals.{main_characters}
 use Rattle.cd_machine.proofs.MachineRuns.{means}
-use Rattle.cd_cells.proofs.GrownTables.{thing_grown, within_grown}
+use Rattle.cd_cells.proofs.GrownTables.{thing_grown, within_grown, further}
 use Rattle.cd_machine.proofs.runs.run.Goals as goal
 use Rattle.cd_machine.proofs.runs.run.Goals.{In_ok-main}
 
@@ -62,3 +62,28 @@ returns-clause-means c = λ main declared.
     (plain_frames middle c.in_ok-machine.machine.environments c.in_ok-machine.machine.stack) (begun.stack middle)
     ((main_at (goal.at.returns-clause-means c).In_ok-main).is ∙ ap (λ at. Closure at NoField) place)
     (thing_grown old middle (c.in_ok-main.ensures {u = tt}).grows c.args.document.0 c.requires.document) (c.in_ok-go.ensures {u = tt}).ran
+
+-- the code stays ready for what was added
+pub returns-clause-ready : goal.returns-clause-ready
+returns-clause-ready c = c.go.ensures.after.in_order.ready
+
+pub returns-clause-program : goal.returns-clause-program
+returns-clause-program c = c.go.ensures.after.program
+
+pub returns-clause-grows : goal.returns-clause-grows
+returns-clause-grows c = further c.args.values.now c.closure.new.self c.go.new.values c.closure.ensures.grows c.go.ensures.after.grows
+
+pub returns-in_err-go-clause-ready : goal.returns-in_err-go-clause-ready
+returns-in_err-go-clause-ready c = c.go.ensures.after.in_order.ready
+
+pub returns-in_err-go-clause-program : goal.returns-in_err-go-clause-program
+returns-in_err-go-clause-program c = c.go.ensures.after.program
+
+pub returns-in_err-go-clause-grows : goal.returns-in_err-go-clause-grows
+returns-in_err-go-clause-grows c = further c.args.values.now c.closure.new.self c.go.new.values c.closure.ensures.grows c.go.ensures.after.grows
+
+pub returns-in_err-main-clause-ready : goal.returns-in_err-main-clause-ready
+returns-in_err-main-clause-ready c = still_ready c.args.values.now c.closure.new.self c.args.code.now c.requires.ready c.closure.ensures.grows
+
+pub returns-in_err-machine-clause-ready : goal.returns-in_err-machine-clause-ready
+returns-in_err-machine-clause-ready c = still_ready c.args.values.now c.closure.new.self c.args.code.now c.requires.ready c.closure.ensures.grows

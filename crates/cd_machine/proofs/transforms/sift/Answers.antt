@@ -38,4 +38,11 @@ returns-clause-sifts c =
 
 pub returns-clause-after : goal.returns-clause-after
 returns-clause-after c = after_then c.args.code.now c.args.values.now c.args.environments.now c.args.code.now c.nil.new.self c.args.environments.now
-    c.sift_on.new.code c.sift_on.new.values c.sift_on.new.environments (ready (goal.at.returns-clause-after c).In_ok-none) (c.in_ok-sift_on.ensures {u = tt}).after
+    c.sift_on.new.code c.sift_on.new.values c.sift_on.new.environments (ready (goal.at.returns-clause-after c).In_ok-none) c.sift_on.ensures.after
+
+pub returns-in_err-sift_on-clause-after : goal.returns-in_err-sift_on-clause-after
+returns-in_err-sift_on-clause-after c = after_then c.args.code.now c.args.values.now c.args.environments.now c.args.code.now c.nil.new.self c.args.environments.now
+    c.sift_on.new.code c.sift_on.new.values c.sift_on.new.environments (ready (goal.at.returns-in_err-sift_on-clause-after c).In_ok-none) c.sift_on.ensures.after
+
+pub returns-in_err-none-clause-after : goal.returns-in_err-none-clause-after
+returns-in_err-none-clause-after c = after_values c.args.code.now c.args.values.now c.nil.new.self c.args.environments.now c.requires.order c.nil.ensures.grows

@@ -8,7 +8,7 @@ use Rattle.cd_machine.specs.Inner.CodeIn.{code_in}
 use Rattle.cd_machine.specs.Inner.InOrder.{IsAfter}
 use Rattle.cd_machine.specs.Inner.PlainFrame.{plain_turn, env_at, items_at}
 use Rattle.cd_machine.specs.Inner.Resuming.{SiftsOn}
-use Rattle.cd_machine.proofs.Afterwards.{after_values}
+use Rattle.cd_machine.proofs.Afterwards.{after_then, after_values}
 use Rattle.cd_machine.proofs.ItemsMapped.{item_before}
 use Rattle.cd_machine.proofs.transforms.sift_next.Goals as goal
 use Rattle.cd_machine.proofs.transforms.sift_next.Goals.{In_ok-done}
@@ -33,3 +33,14 @@ returns-clause-sifts c =
     subst (λ (done : List Thing). SiftsOn (code_in c.args.code.now) (plain_branches c.args.branches.now) (env_at new environments c.args.env) done
     (items_at new environments c.args.parts.1) (plain_turn new environments c.in_ok-sift_on.field-0))
     (item_before old middle new pair.grows next.after.grows c.args.id.0 c.args.parts.0.0 done c.requires.value c.requires.done at) next.sifts
+
+pub returns-clause-after : goal.returns-clause-after
+returns-clause-after c = after_then c.args.code.now c.args.values.now c.args.environments.now c.args.code.now c.pair.new.self c.args.environments.now
+    c.sift_on.new.code c.sift_on.new.values c.sift_on.new.environments (ready (goal.at.returns-clause-after c).In_ok-done) c.sift_on.ensures.after
+
+pub returns-in_err-sift_on-clause-after : goal.returns-in_err-sift_on-clause-after
+returns-in_err-sift_on-clause-after c = after_then c.args.code.now c.args.values.now c.args.environments.now c.args.code.now c.pair.new.self c.args.environments.now
+    c.sift_on.new.code c.sift_on.new.values c.sift_on.new.environments (ready (goal.at.returns-in_err-sift_on-clause-after c).In_ok-done) c.sift_on.ensures.after
+
+pub returns-in_err-done-clause-after : goal.returns-in_err-done-clause-after
+returns-in_err-done-clause-after c = after_values c.args.code.now c.args.values.now c.pair.new.self c.args.environments.now c.requires.order c.pair.ensures.grows

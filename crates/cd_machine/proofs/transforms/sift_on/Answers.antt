@@ -72,5 +72,15 @@ returns-in_ok-entry-in-Some-clause-within c =
 
 pub returns-in_ok-entry-in-Some-clause-after : goal.returns-in_ok-entry-in-Some-clause-after
 returns-in_ok-entry-in-Some-clause-after c = after_then c.args.code.now c.args.values.now c.args.environments.now c.args.code.now c.nil.new.self c.args.environments.now
-    c.choose.new.code c.choose.new.values c.choose.new.environments (ready (goal.at.returns-in_ok-entry-in-Some-clause-after c).In_ok-none-in-Some)
-    (c.in_ok-entry-in-Some.ensures {u = tt}).after
+    c.choose.new.code c.choose.new.values c.choose.new.environments (ready (goal.at.returns-in_ok-entry-in-Some-clause-after c).In_ok-none-in-Some) c.choose.ensures.after
+
+pub returns-in_err-entry-in-Some-clause-after : goal.returns-in_err-entry-in-Some-clause-after
+returns-in_err-entry-in-Some-clause-after c = after_then c.args.code.now c.args.values.now c.args.environments.now c.args.code.now c.nil.new.self c.args.environments.now
+    c.choose.new.code c.choose.new.values c.choose.new.environments (ready (goal.at.returns-in_err-entry-in-Some-clause-after c).In_ok-none-in-Some) c.choose.ensures.after
+
+pub returns-in_err-none-in-Some-clause-after : goal.returns-in_err-none-in-Some-clause-after
+returns-in_err-none-in-Some-clause-after c = after_values c.args.code.now c.args.values.now c.nil.new.self c.args.environments.now c.requires.order c.nil.ensures.grows
+
+pub returns-in_err-joined-in-None-clause-after : goal.returns-in_err-joined-in-None-clause-after
+returns-in_err-joined-in-None-clause-after c = after_values c.args.code.now c.args.values.now c.joined.new.values c.args.environments.now c.requires.order
+    c.joined.ensures.grows

@@ -1,7 +1,8 @@
 use Rattle.std.proofs.Common.{arith, ◌≡◌, ◌++◌, ◌∷◌, [], ap, ◌∙◌, sym, subst, length, length-append, ◌+◌, List}
 use Rattle.cd_cells.specs.declared.cell.Part.{Part}
-use Rattle.cd_machine.specs.Inner.Nodes.{parts_at, lists, AreOrdered}
-use Rattle.cd_machine.proofs.NodesAdded.{one_more, how_many, still_ordered}
+use Rattle.cd_machine.specs.Inner.Nodes.{parts_at, lists, AreOrdered, Longer}
+use Rattle.cd_machine.proofs.NodesAdded.{one_more, how_many, still_ordered, longer_by_one}
+use Rattle.cd_machine.proofs.Staying.{each_added}
 use Rattle.cd_machine.proofs.environments.Environments.add.Goals as goal
 use Rattle.cd_machine.proofs.environments.Environments.add.Goals.{In_ok-push}
 
@@ -12,6 +13,14 @@ count c = ap length (sym c.self.view_is) ∙ how_many ([] ∷ []) c.self.inside.
 ordered : (c : In_ok-push) → AreOrdered 0 c.push.new.self.items
 ordered c = subst (AreOrdered 0) (sym c.in_ok-push.ensures.items)
     (still_ordered 0 c.self.inside.nodes.items (record { part = c.args.part; around = c.args.around.0 }) c.self.invariant (omega (arith, count c, c.requires)))
+
+-- the node was put, whether or not it has a number
+added : (c : In_ok-push) → lists c.push.new.self.items ≡ c.args.self.now ++ (c.args.part ∷ parts_at c.args.self.now c.args.around.0) ∷ []
+added c = ap lists c.in_ok-push.ensures.items ∙ one_more ([] ∷ []) c.self.inside.nodes.items (record { part = c.args.part; around = c.args.around.0 })
+    ∙ ap (λ (all : List (List Part)). all ++ (c.args.part ∷ parts_at all c.args.around.0) ∷ []) c.self.view_is
+
+longer : (c : In_ok-push) → Longer c.args.self.now (lists c.push.new.self.items)
+longer c = longer_by_one c.args.self.now (lists c.push.new.self.items) (c.args.part ∷ parts_at c.args.self.now c.args.around.0) (added c)
 
 pub invariant_of-self-in_err-small : goal.invariant_of-self-in_err-small
 invariant_of-self-in_err-small c = ordered (goal.at.invariant_of-self-in_err-small c).In_ok-push
@@ -26,5 +35,18 @@ returns-clause-number c =
     omega (arith, made, longer, c.len.ensures, c.in_ok-small.ensures {u = tt})
 
 pub returns-clause-added : goal.returns-clause-added
-returns-clause-added c = ap lists c.in_ok-push.ensures.items ∙ one_more ([] ∷ []) c.self.inside.nodes.items (record { part = c.args.part; around = c.args.around.0 })
-    ∙ ap (λ (all : List (List Part)). all ++ (c.args.part ∷ parts_at all c.args.around.0) ∷ []) c.self.view_is
+returns-clause-added c = added (goal.at.returns-clause-added c).In_ok-push
+
+pub returns-clause-grows : goal.returns-clause-grows
+returns-clause-grows c = longer (goal.at.returns-clause-grows c).In_ok-push
+
+pub returns-clause-each : goal.returns-clause-each
+returns-clause-each c = λ values each one. each_added values c.args.self.now (lists c.push.new.self.items) c.args.part c.args.around.0
+    (added (goal.at.returns-clause-each c).In_ok-push) each one
+
+pub returns-in_err-small-clause-grows : goal.returns-in_err-small-clause-grows
+returns-in_err-small-clause-grows c = longer (goal.at.returns-in_err-small-clause-grows c).In_ok-push
+
+pub returns-in_err-small-clause-each : goal.returns-in_err-small-clause-each
+returns-in_err-small-clause-each c = λ values each one. each_added values c.args.self.now (lists c.push.new.self.items) c.args.part c.args.around.0
+    (added (goal.at.returns-in_err-small-clause-each c).In_ok-push) each one

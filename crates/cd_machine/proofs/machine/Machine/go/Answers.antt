@@ -92,3 +92,23 @@ units-preserved c =
       fewer = omega (arith, c.units.invariant.fewer);
       kept = subst (λ (all : List (List Part)). Kept code (start at) c.args.units (plain_state new all control left stack)) (sym put.environments) kept;
     }
+
+pub returns-in-End-clause-after : goal.returns-in-End-clause-after
+returns-in-End-clause-after c = after_then c.args.code.now c.args.values.now c.args.self.now.environments c.units.code c.units.values c.units.self.environments
+    c.to_unit.new.code c.to_unit.new.values c.to_unit.new.self.environments c.units.invariant.after c.to_unit.ensures.after
+
+pub returns-then-units-eq0-clause-after : goal.returns-then-units-eq0-clause-after
+returns-then-units-eq0-clause-after c = after_then c.args.code.now c.args.values.now c.args.self.now.environments c.units.code c.units.values c.units.self.environments
+    c.to_unit.new.code c.to_unit.new.values c.to_unit.new.self.environments c.units.invariant.after c.to_unit.ensures.after
+
+-- memory ran out
+pub returns-in_err-outcome-clause-after : goal.returns-in_err-outcome-clause-after
+returns-in_err-outcome-clause-after c = after_then c.args.code.now c.args.values.now c.args.self.now.environments c.units.code c.units.values c.units.self.environments
+    c.to_unit.new.code c.to_unit.new.values c.to_unit.new.self.environments c.units.invariant.after c.to_unit.ensures.after
+
+pub returns-in_err-control-in-Turn-clause-after : goal.returns-in_err-control-in-Turn-clause-after
+returns-in_err-control-in-Turn-clause-after c =
+    subst (λ (all : List (List Part)). IsAfter c.args.code.now c.args.values.now c.args.self.now.environments c.to_unit.new.code c.to_unit.new.values all)
+    (sym c.put.ensures.environments)
+    (after_then c.args.code.now c.args.values.now c.args.self.now.environments c.units.code c.units.values c.units.self.environments c.to_unit.new.code
+    c.to_unit.new.values c.to_unit.new.self.environments c.units.invariant.after c.to_unit.ensures.after)

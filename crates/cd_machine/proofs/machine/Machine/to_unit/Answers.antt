@@ -80,3 +80,15 @@ free-preserved c =
           (leads_then (code_in code) first last (plain_control new environments control) before middle (plain_frames new environments stack)
           c.free.invariant.leads goes);
     }
+
+-- memory ran out
+pub returns-in_err-outcome-clause-after : goal.returns-in_err-outcome-clause-after
+returns-in_err-outcome-clause-after c = after_then c.args.code.now c.args.values.now c.args.self.now.environments c.free.code c.free.values c.free.self.environments
+    c.turn.new.code c.turn.new.values c.turn.new.self.environments c.free.invariant.after c.turn.ensures.after
+
+pub returns-in_err-control-in-Turn-clause-after : goal.returns-in_err-control-in-Turn-clause-after
+returns-in_err-control-in-Turn-clause-after c =
+    subst (λ (all : List (List Part)). IsAfter c.args.code.now c.args.values.now c.args.self.now.environments c.turn.new.code c.turn.new.values all)
+    (sym c.put.ensures.environments)
+    (after_then c.args.code.now c.args.values.now c.args.self.now.environments c.free.code c.free.values c.free.self.environments c.turn.new.code
+    c.turn.new.values c.turn.new.self.environments c.free.invariant.after c.turn.ensures.after)

@@ -76,3 +76,12 @@ returns-in-Some-clause-turns c =
 pub returns-in-Some-clause-after : goal.returns-in-Some-clause-after
 returns-in-Some-clause-after c = after_values c.args.code.now c.args.values.now c.operator_at_hand.new.values c.args.self.now.environments
     c.requires.waits.order c.operator_at_hand.ensures.grows
+
+-- memory ran out
+pub returns-in_err-turn-in-Evaluating-clause-after : goal.returns-in_err-turn-in-Evaluating-clause-after
+returns-in_err-turn-in-Evaluating-clause-after c = after_values c.args.code.now c.args.values.now c.operator_at_hand.new.values c.args.self.now.environments
+    c.requires.waits.order c.operator_at_hand.ensures.grows
+
+pub returns-in_err-turn-in-Evaluating-2-clause-after : goal.returns-in_err-turn-in-Evaluating-2-clause-after
+returns-in_err-turn-in-Evaluating-2-clause-after c = after_values c.args.code.now c.args.values.now c.enter.new.values c.args.self.now.environments
+    c.requires.waits.order (further c.args.values.now c.operator_at_hand.new.values c.enter.new.values c.operator_at_hand.ensures.grows c.enter.ensures.grows)
