@@ -2,7 +2,6 @@ pub mod RunReplies
 pub mod InputDecided
 mod FileRefused
 pub mod Characters
-pub mod TypedPrograms
 mod SafeRuns
 mod RunsAnswered
 mod DocumentsIn

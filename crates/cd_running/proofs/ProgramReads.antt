@@ -1,10 +1,8 @@
 -- The text of the workload's program reads as its program, as no other one, and is not refused.
 use Rattle.std.proofs.Common.{◌≡◌, refl}
-use Rattle.std.specs.Str.{chars, IsUtf8}
+use Rattle.std.specs.Str.{IsUtf8}
 use Rattle.std.proofs.lemmas.Str.{IsUtf8-from_ascii}
 use Rattle.cd_program.specs.Expr.{Program}
-use Rattle.cd_program.specs.WellMade.{IsWellMadeProgram}
-use Rattle.cd_grammar.proofs.MadeWell.{text_makes_program}
 use Rattle.cd_replies.specs.Texts.{ReadsAsProgram, RefusesProgram}
 use Rattle.cd_replies.specs.declared.refusal.Refusal.{Refusal}
 use Rattle.cd_replies.proofs.OneRefusal.{reads_one_program, program_unrefused}
@@ -34,7 +32,3 @@ one_program program reads = reads_one_program program_text program work_program 
 
 pub program_is_not_refused : (found : Refusal) → RefusesProgram program_text found → ⊥
 program_is_not_refused = program_unrefused program_text work_program program_reads
-
-pub program_is_well_made : IsWellMadeProgram work_program
-program_is_well_made =
-    text_makes_program (chars program_text) program_tokens 1000 work_program program_spelled tokens_write_program

@@ -2,6 +2,7 @@
 #![tactic(auto)]
 
 ghost use Rattle.std.specs.Prelude.{◌≡◌, ◌<◌, [], ◌∷◌, length, IfOk};
+ghost use Rattle.std.specs.Str.{IsUtf8};
 ghost use Rattle.cd_cells.specs.Cells.{thing_at};
 ghost use Rattle.cd_cells.specs.Table.{table};
 ghost use Rattle.cd_empty.specs.Seen.{graph_of};
@@ -34,10 +35,16 @@ use std::alloc::{AllocError, Global};
 mod input;
 mod on_value;
 mod running;
-mod safety;
 mod workload;
 
 pub use workload::work;
+
+// The name of a file, and its text.
+#[derive(Clone, Copy)]
+struct Source<'a> {
+    file: &'a str,
+    text: &'a str,
+}
 
 /// What the program of a file comes to on the value of a document, with so many units: the value
 /// that its `main` gives, an exception that is not caught, an integer beyond 128 bits, or that more
@@ -104,8 +111,30 @@ fn with_program<F: Files>(
         (F.state files.old) (F.state files.new) document.now result }
 {
     let mut world = world_of(alloc, &program)?;
-    match no_types(alloc, &mut world, file, text, &program)? {
-        None => with_types(alloc, files, &mut world, program, document, units),
+    let source = Source { file, text };
+    in_world(alloc, files, &mut world, source, program, document, units)
+}
+
+// The same, in a world that begins with the nodes of the program.
+fn in_world<F: Files>(
+    alloc: Global,
+    files: &mut F,
+    world: &mut World,
+    source: Source<'_>,
+    program: Resolved<'_>,
+    document: &str,
+    units: u64,
+) -> Result<Message, AllocError>
+    requires utf8 { IsUtf8 source.text.now }
+    requires reads { ReadsAsProgram source.text.now (program_of program) }
+    requires resolved { IsResolved program }
+    requires begins { Extends program (graph_of world.old) }
+    ensures { Finishes (λ disk reply. HasText disk source.entry.file.now source.entry.text.now
+        → RunAnswer disk units source.entry.file.now document.now reply)
+        (F.state files.old) (F.state files.new) document.now result }
+{
+    match no_types(alloc, world, source.file, source.text, &program)? {
+        None => with_types(alloc, files, world, program, document, units),
         Some(message) => Ok(message),
     }
 }

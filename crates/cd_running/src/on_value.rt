@@ -11,14 +11,13 @@ ghost use Rattle.cd_running.specs.RunsOn.{RunsOn};
 ghost use Rattle.cd_running.specs.TypedProgram.{IsTypedProgram};
 
 use crate::input::is_input;
-use crate::safety::typed_programs_are_safe;
 use cd_cells::{ValueId, Values};
 use cd_code::compile;
 use cd_empty::World;
 use cd_machine::{Ran, run};
 use cd_resolved::Resolved;
-use cd_resolved::laws::patterns_have_nodes;
 use cd_safety::laws::typed_programs_have_main;
+use cd_texts::laws::written_programs_are_safe;
 use std::alloc::{AllocError, Global};
 
 /// What a program that has types comes to on a value, with so many units, if it takes the value.
@@ -47,9 +46,9 @@ pub(crate) fn run_on(
     ensures within { IfOk result
         (λ ran. IfSome ran (λ ran. IsOutcome (length (table values.new)) ran.outcome)) }
 {
-    // A program with types is safe.
-    patterns_have_nodes();
-    typed_programs_are_safe();
+    // The contract of this call says that a program which a text reads as, and that has types, is
+    // safe.
+    written_programs_are_safe();
     if is_input(alloc, &program, values, value)? {
         let ran = run_by_code(alloc, world, program, values, value, units)?;
         Ok(Some(ran))

@@ -15,7 +15,7 @@ use Rattle.cd_running.proofs.of_value.Goals as goal
 pub reported-requires-clause-goes : goal.reported-requires-clause-goes
 reported-requires-clause-goes c =
     let program = program_of c.args.program in
-    let found = c.typed_programs_have_main.ensures program c.requires.typed.typed c.requires.typed.sound c.requires.typed.functions in
+    let found = c.typed_programs_have_main.ensures program c.requires.typed.typed c.requires.typed.reads.sound c.requires.resolved.places_differ in
     let runs = rw c.in-Some.is at c.in_ok-run_on.ensures.runs in
     not_stuck program found.0 (thing_at (table c.args.values.now) c.args.value.0) c.args.units (plain_ran (table c.run_on.new.values) c.in-Some.ran)
     (runs found.0 found.1)
@@ -25,7 +25,7 @@ pub returns-in-None : goal.returns-in-None
 returns-in-None c =
     let program = program_of c.args.program in
     let v = thing_at (table c.args.values.now) c.args.value.0 in
-    let found = c.typed_programs_have_main.ensures program c.requires.typed.typed c.requires.typed.sound c.requires.typed.functions in
+    let found = c.typed_programs_have_main.ensures program c.requires.typed.typed c.requires.typed.reads.sound c.requires.resolved.places_differ in
     let outside = rw c.in-None.is at c.in_ok-run_on.ensures.runs in
     replies c.not_input.result (not_input c.args.document.now) (OnValue program c.args.units c.args.document.now v) c.not_input.ensures
     (refused_answered program found.0 found.1 v c.args.units c.args.document.now (outside found.0 found.1))
@@ -35,7 +35,7 @@ pub returns-in-Some : goal.returns-in-Some
 returns-in-Some c =
     let program = program_of c.args.program in
     let v = thing_at (table c.args.values.now) c.args.value.0 in
-    let found = c.typed_programs_have_main.ensures program c.requires.typed.typed c.requires.typed.sound c.requires.typed.functions in
+    let found = c.typed_programs_have_main.ensures program c.requires.typed.typed c.requires.typed.reads.sound c.requires.resolved.places_differ in
     let result = plain_ran (table c.run_on.new.values) c.in-Some.ran in
     let runs = rw c.in-Some.is at c.in_ok-run_on.ensures.runs in
     IfOk-weaker c.reported.result _ _ (λ message reports.

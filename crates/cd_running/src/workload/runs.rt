@@ -64,8 +64,24 @@ fn run_program(alloc: Global, program: Resolved<'_>, size: u32) -> Result<Ended,
     ensures { IfOk result (IsOfRun size) }
 {
     let mut world = world_of(alloc, &program)?;
-    has_types(alloc, &mut world, &program)?;
     in_world(alloc, &mut world, program, size)
+}
+
+// The same, in a world that begins with the nodes of the program.
+fn in_world(
+    alloc: Global,
+    world: &mut World,
+    program: Resolved<'_>,
+    size: u32,
+) -> Result<Ended, AllocError>
+    requires most { size ≤ 100000 }
+    requires is { program_of program ≡ work_program }
+    requires resolved { IsResolved program }
+    requires begins { Extends program (graph_of world.old) }
+    ensures { IfOk result (IsOfRun size) }
+{
+    has_types(alloc, world, &program)?;
+    on_document(alloc, world, program, size)
 }
 
 // Asks for the types of the program, which has types.
@@ -81,8 +97,8 @@ fn has_types(alloc: Global, world: &mut World, program: &Resolved<'_>) -> Result
     }
 }
 
-// The same, in a world that begins with the nodes of the program.
-fn in_world(
+// The same, after the program was asked for its types.
+fn on_document(
     alloc: Global,
     world: &mut World,
     program: Resolved<'_>,

@@ -17,7 +17,7 @@ use Rattle.cd_running.proofs.on_value.run_by_code.Goals as goal
 pub run-requires-clause-main : goal.run-requires-clause-main
 run-requires-clause-main c =
     let typed = c.requires.typed in
-    let found = c.typed_programs_have_main.ensures (program_of c.args.program) typed.typed typed.sound typed.functions in (
+    let found = c.typed_programs_have_main.ensures (program_of c.args.program) typed.typed typed.reads.sound c.requires.resolved.places_differ in (
       place_of found.0,
       subst (λ (program : Program). declared_at program (codes "main") ≡ Some (place_of found.0)) (sym c.in_ok-code.ensures.program) found.1.declared,
     )

@@ -11,17 +11,15 @@ use Rattle.cd_running.specs.Inner.WorkValues.{result}
 use Rattle.cd_running.proofs.DocumentIsInput.{is_document}
 use Rattle.cd_running.proofs.RunCounted.{gave, left, counted}
 use Rattle.cd_running.proofs.RunFound.{run_found_of, end_of}
-use Rattle.cd_running.proofs.ProgramReads.{program_reads, program_encoded, program_is_well_made}
+use Rattle.cd_running.proofs.ProgramReads.{program_reads, program_encoded}
 use Rattle.cd_running.proofs.ProgramTyped.{program_is_typed}
-use Rattle.cd_running.proofs.TypedPrograms.{typed_program}
-use Rattle.cd_running.proofs.workload.runs.in_world.Goals as goal
-use Rattle.cd_running.proofs.workload.runs.in_world.Goals.{In_ok-ran}
+use Rattle.cd_running.proofs.workload.runs.on_document.Goals as goal
+use Rattle.cd_running.proofs.workload.runs.on_document.Goals.{In_ok-ran}
 
 -- the program was read and has types
 pub run_on-requires-clause-typed : goal.run_on-requires-clause-typed
-run_on-requires-clause-typed c =
-    subst IsTypedProgram (sym c.requires.is)
-    (typed_program program_text work_program program_encoded program_reads program_is_well_made program_is_typed)
+run_on-requires-clause-typed c = subst IsTypedProgram (sym c.requires.is)
+    (record { text = program_text; utf8 = program_encoded; reads = program_reads; typed = program_is_typed })
 
 -- the document is data
 pub run_on-requires-clause-document : goal.run_on-requires-clause-document
