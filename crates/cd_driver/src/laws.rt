@@ -4,7 +4,9 @@ ghost use Rattle.std.specs.Str.{IsUtf8};
 ghost use Rattle.cd_base.specs.FilesState.{FilesState};
 ghost use Rattle.cd_base.specs.declared.status.Status.{Status};
 ghost use Rattle.cd_program.specs.Expr.{Program};
-ghost use Rattle.cd_typing.specs.Typed.{IsTyped};
+ghost use Rattle.cd_typing.specs.Kept.{Kept};
+ghost use Rattle.cd_typing.specs.Typed.{IsTyped, IsTypedWithin};
+ghost use Rattle.cd_safety.specs.ComesWithin.{KeepsTypes, StaysWithin};
 ghost use Rattle.cd_safety.specs.SafeProgram.{IsSafeProgram};
 ghost use Rattle.cd_replies.specs.Bytes.{Bytes};
 ghost use Rattle.cd_replies.specs.Disk.{Disk};
@@ -18,7 +20,7 @@ ghost use Rattle.cd_driver.specs.FilesRead.{ReadsFilesOf, NamesNoFile};
 ghost use Rattle.cd_driver.specs.Causes.{Cause};
 ghost use Rattle.cd_driver.specs.Reasons.{Reason};
 
-use cd_texts::laws::written_programs_are_safe;
+use cd_texts::laws::{written_programs_are_safe, written_programs_stay_within};
 
 /// The words and the files decide the status of an answer, where each file that the words' command
 /// reads can't be read, or is known. So each status comes exactly where its rule holds, want of
@@ -56,4 +58,16 @@ pub fn typed_programs_are_safe()
 {
     // The contract of this call says so of each text of Unicode characters.
     written_programs_are_safe();
+}
+
+/// Where such a program has types within those that are kept for its matches, each run on such a
+/// document asks a pattern only of values in a type that is kept for it: what the program comes to,
+/// it comes to also where its patterns answer for such values alone.
+pub fn typed_programs_stay_within()
+    ensures { (text : Bytes) (program : Program) → IsUtf8 text → ReadsAsProgram text program
+        → IsTyped program → (kept : Kept) → KeepsTypes kept → IsTypedWithin kept program
+        → StaysWithin kept program }
+{
+    // The contract of this call says so of each text of Unicode characters.
+    written_programs_stay_within();
 }
